@@ -1,0 +1,14 @@
+use mathlib.Core.Path.{_≡_, ap, sym, _∙_}
+use mathlib.Core.Bool.{_&&_}
+use Rattle.std.proofs.shelf.Bits.{one-shl}
+use Rattle.sets.specs.Members.{digit}
+use Rattle.sets.proofs.Bits.{digit-one, eq-below, eq-past}
+use Rattle.sets.proofs.set.SmallSet.of.Needs as need
+
+pub returns-then-number-lt64 : need.returns-then-number-lt64
+returns-then-number-lt64 c i =
+    let t = c .args .number in
+    ap (λ n. digit n i) (one-shl t 64 (c .if-number-lt64 .taken)) ∙ digit-one t i ∙ eq-below i t 64 (c .if-number-lt64 .taken)
+
+pub returns-else-number-lt64 : need.returns-else-number-lt64
+returns-else-number-lt64 c i = c .empty .ensures i ∙ sym (eq-past i (c .args .number) 64 (c .if-number-lt64 .left))
