@@ -3,13 +3,14 @@ ghost use mathlib.Core.Bool.{false, not, xor, _&&_, _||_};
 ghost use Prim.Native.Nat.{ℕ, _≤_};
 ghost use lib.Dec.{eqb, ltb};
 ghost use Rattle.std.specs.Options.{Cases as BySome};
+ghost use Rattle.std.specs.Orderings.{Decides};
 ghost use Rattle.sets.specs.Members.{has, odd};
 ghost use Rattle.sets.specs.Steps.{Empty, Least};
 ghost use Rattle.sets.specs.Sums.{count};
 use crate::members::Members;
 
 /// A set of numbers from 0 to 63. Any number may be asked for or given: past 63 none is a member, and none is added.
-#[derive(Clone, Copy, PartialEq, Eq, Debug)]
+#[derive(Clone, Copy, Eq, Debug)]
 pub struct SmallSet {
     // Bit `i` is 1 where `i` is a member.
     bits: u64,
@@ -107,5 +108,14 @@ impl SmallSet {
         ensures { λ r. ⌜ r .rest ≡ self ⌝ }
     {
         Members { rest: self }
+    }
+}
+
+// Two sets are equal exactly if they have the same members.
+pub impl PartialEq<SmallSet> for SmallSet as SmallSetPartialEq {
+    ghost equals = { λ s t r. Decides r ((i : ℕ) → has s i ≡ has t i) };
+
+    fn eq(&self, other: &SmallSet) -> bool {
+        self.bits == other.bits
     }
 }
