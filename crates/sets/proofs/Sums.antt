@@ -1,14 +1,13 @@
 -- Laws of finite sums.
 use mathlib.Core.Path.{_≡_, refl, sym, ap, ap₂, _∙_}
-use mathlib.Core.Bool.{Bool, true, false, cond, not, xor, _&&_, false≢true}
+use mathlib.Core.Bool.{Bool, true, false, cond, not, _&&_, _||_, false≢true}
 use mathlib.Core.Logic.{_⊎_, inl, inr}
-use Prim.Native.Nat.{ℕ, zero, suc, _+_, _≤_, _<_, zero-le}
-use native.Mathlib.Nat.{add-assoc, add-comm, zero-add, add-zero, add-suc}
-use native.Mathlib.Numerals.{add-one}
+use Prim.Native.Nat.{ℕ, zero, suc, _+_, _*_, _≤_, _<_}
+use native.Mathlib.Nat.{add-assoc, add-comm, zero-add, add-zero, add-suc, add-mul}
 use native.Mathlib.Omega.{arith}
 use lib.Dec.{ltb, eqb}
 use Rattle.std.proofs.shelf.Ways.{eqb-tells, leb-tells}
-use Rattle.std.proofs.shelf.Tests.{eqb-true, ne-eqb, lt-ltb, le-ltb}
+use Rattle.std.proofs.shelf.Tests.{eqb-true, eq-eqb, ne-eqb, lt-ltb, le-ltb, and-from, or-right}
 use Rattle.sets.specs.Sums.{sum-below, total, count, Adds}
 
 pub nat-adds : Adds 0 _+_
@@ -109,9 +108,63 @@ count-same m s t h = sum-same 0 _+_ m (λ i. cond (s i) 1 0) (λ i. cond (t i) 1
 pub count-first : (m : ℕ) (s : ℕ → Bool) → count (suc m) s ≡ cond (s 0) 1 0 + count m (λ i. s (suc i))
 count-first m s = sum-first 0 _+_ nat-adds m (λ i. cond (s i) 1 0)
 
+pub count-none : (m : ℕ) (s : ℕ → Bool) → ((i : ℕ) → i < m → s i ≡ false) → count m s ≡ 0
+count-none m s h = sum-none 0 _+_ nat-adds m (λ i. cond (s i) 1 0) (λ i l. ap (λ (b : Bool). cond {A = ℕ} b 1 0) (h i l))
+
+pub count-all : (m : ℕ) → count m (λ i. true) ≡ m
+unfolding sum-below
+count-all zero = refl
+count-all (suc m) = let h = count-all m in omega arith
+
 -- a set that has b, and the same set without b
 pub count-without : (m b : ℕ) (s : ℕ → Bool) → b < m → s b ≡ true → count m s ≡ suc (count m (λ i. s i && not (eqb i b)))
 count-without m b s lt h = total-split 0 _+_ nat-adds m b s (λ i. 1) lt h ∙ omega arith
 
-pub count-none : (m : ℕ) (s : ℕ → Bool) → ((i : ℕ) → i < m → s i ≡ false) → count m s ≡ 0
-count-none m s h = sum-none 0 _+_ nat-adds m (λ i. cond (s i) 1 0) (λ i l. ap (λ (b : Bool). cond {A = ℕ} b 1 0) (h i l))
+-- a set that lacks b, and the same set with b
+pub count-with : (m b : ℕ) (s : ℕ → Bool) → b < m → s b ≡ false → count m (λ i. s i || eqb i b) ≡ suc (count m s)
+count-with m b s lt h =
+    count-without m b (λ i. s i || eqb i b) lt (or-right (s b) (eqb b b) (eq-eqb b b refl))
+    ∙ ap suc (count-same m (λ i. (s i || eqb i b) && not (eqb i b)) s (λ i _. back (s i) (eqb i b) (λ e. ap s (eqb-true i b e) ∙ h)))
+  where
+    back : (x e : Bool) → (e ≡ true → x ≡ false) → ((x || e) && not e) ≡ x
+    back true true g = sym (g refl)
+    back true false g = refl
+    back false true g = refl
+    back false false g = refl
+
+-- a set with one member
+pub count-one : (m b : ℕ) (s : ℕ → Bool) → b < m → s b ≡ true → ((i : ℕ) → i < m → s i ≡ true → i ≡ b) → count m s ≡ 1
+count-one m b s lt h only = count-without m b s lt h ∙ ap suc (count-none m (λ i. s i && not (eqb i b)) (λ i l. alone i l (s i) refl))
+  where
+    alone : (i : ℕ) → i < m → (x : Bool) → s i ≡ x → (x && not (eqb i b)) ≡ false
+    alone i l true e = ap not (eq-eqb i b (only i l e))
+    alone i l false e = refl
+
+-- a set with two members at least
+pub count-two : (m a b : ℕ) (s : ℕ → Bool) → a < m → b < m → (a ≡ b → ⊥) → s a ≡ true → s b ≡ true → 2 ≤ count m s
+count-two m a b s la lb ne ea eb =
+    let one = count-without m a s la ea in
+    let two = count-without m b (λ i. s i && not (eqb i a)) lb (and-from (s b) (not (eqb b a)) eb (ap not (ne-eqb b a (λ q. ne (sym q))))) in
+    omega arith
+
+-- a set that has no member from m on
+pub count-past : (m n : ℕ) (s : ℕ → Bool) → m ≤ n → ((i : ℕ) → m ≤ i → s i ≡ false) → count n s ≡ count m s
+unfolding sum-below
+count-past m zero s l h = let e : 0 ≡ m = omega arith in ap (λ x. count x s) e
+count-past m (suc n) s l h = elim (leb-tells (suc m) (suc n)) [
+  | inl g ↦
+      let ih = count-past m n s (omega (arith, g .1)) h in
+      let top : _≡_ {A = ℕ} (cond (s n) 1 0) 0 = ap (λ (b : Bool). cond {A = ℕ} b 1 0) (h n (omega (arith, g .1))) in
+      omega arith
+  | inr g ↦ let e : suc n ≡ m = omega (arith, g .1) in ap (λ x. count x s) e
+]
+
+-- the same term c for each member
+pub total-const : (m c : ℕ) (s : ℕ → Bool) → total 0 _+_ m s (λ i. c) ≡ count m s * c
+unfolding sum-below
+total-const zero c s = omega arith
+total-const (suc m) c s = ap (λ k. k + cond (s m) c 0) (total-const m c s) ∙ go (s m)
+  where
+    go : (q : Bool) → count m s * c + cond q c 0 ≡ (count m s + cond q 1 0) * c
+    go true = omega (arith, add-mul (count m s) 1 c)
+    go false = omega (arith, add-mul (count m s) 0 c)

@@ -1,0 +1,11 @@
+pub mod Ranges
+pub mod Contents
+pub mod Place
+pub mod Reading
+pub mod Refusals
+pub mod Numbers
+pub mod Parts
+pub mod Held
+pub mod Answers
+pub mod Stages
+pub mod Worked
