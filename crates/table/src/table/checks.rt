@@ -4,7 +4,6 @@ ghost use Rattle.table.specs.Ranges.{FirstFailing};
 ghost use Rattle.table.specs.Reading.{apart, together, joined, clash};
 ghost use Rattle.table.specs.Held.{draftContents};
 ghost use Rattle.table.specs.Answers.{PointsOf};
-
 use super::Draft;
 use crate::fault::TableFault;
 use crate::grade::Grade;

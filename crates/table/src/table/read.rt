@@ -81,7 +81,11 @@ impl Reader<'_> {
     {
         self.size(at, 1, 1)?;
         let grade = self.size(at + 1, 1, 2)?;
-        Ok(if grade == 1 { Grade::Packing } else { Grade::Steiner })
+        Ok(if grade == 1 {
+            Grade::Packing
+        } else {
+            Grade::Steiner
+        })
     }
 
     // Sees that no byte follows the table, which ends at `end`.

@@ -1,0 +1,17 @@
+pub mod Ranges
+pub mod Sizes
+pub mod Counts
+pub mod Blocks
+pub mod SameContents
+pub mod Formed
+pub mod Clashes
+pub mod Faults
+pub mod Places
+pub mod Points
+pub mod Validity
+pub mod Load
+pub mod Rounds
+pub mod SameTables
+pub mod Rereads
+pub mod Tells
+pub mod WorkedCases
