@@ -13,6 +13,7 @@ use Rattle.std.proofs.shelf.Tests.{cases-lt, cases-bool, eqb-true, and-left, an
 use Rattle.sets.specs.declared.set.SmallSet.{SmallSet}
 use Rattle.sets.specs.Members.{odd, digit, has}
 use Rattle.sets.specs.Sums.{sum-below, count}
+use Rattle.sets.specs.Parity.{oddly}
 use Rattle.sets.proofs.Sums.{count-same, count-first}
 
 -- ---- one digit
@@ -218,3 +219,47 @@ least-digit (suc k) m h p = go (m % 2) refl (λ e. least-digit k (m / 2) (omega 
     go : (x : ℕ) → m % 2 ≡ x → (m % 2 ≡ 0 → Lowest (m / 2) (trailingZeros k (m / 2)) k) → Lowest m (under x (trailingZeros k (m / 2))) (suc k)
     go zero e f = lowest-double m (trailingZeros k (m / 2)) k e (f e)
     go (suc x) e f = record { inside = omega arith; here = digit-zero m ∙ odd-is m 1 (omega arith); below = λ j l. absurd (omega arith) }
+
+-- ---- parity, by members
+
+-- the parity of a sum is the sum of the parities
+pub odd-count-xor : (m : ℕ) (s t : ℕ → Bool) → odd (count m (λ i. xor (s i) (t i))) ≡ xor (odd (count m s)) (odd (count m t))
+unfolding sum-below xor
+odd-count-xor zero s t = odd-is 0 0 refl ∙ sym (ap₂ xor (odd-is 0 0 refl) (odd-is 0 0 refl))
+odd-count-xor (suc m) s t =
+    odd-add (count m (λ i. xor (s i) (t i))) (cond (xor (s m) (t m)) 1 0)
+    ∙ ap₂ xor (odd-count-xor m s t) (odd-flag (xor (s m) (t m)))
+    ∙ exchange (odd (count m s)) (odd (count m t)) (s m) (t m)
+    ∙ sym (ap₂ xor (odd-add (count m s) (cond (s m) 1 0) ∙ ap (xor (odd (count m s))) (odd-flag (s m))) (odd-add (count m t) (cond (t m) 1 0) ∙ ap (xor (odd (count m t))) (odd-flag (t m))))
+  where
+    odd-flag : (b : Bool) → odd (cond b 1 0) ≡ b
+    odd-flag true = odd-is 1 1 refl
+    odd-flag false = odd-is 0 0 refl
+
+    exchange : (a b x y : Bool) → xor (xor a b) (xor x y) ≡ xor (xor a x) (xor b y)
+    exchange true true true true = refl
+    exchange true true true false = refl
+    exchange true true false true = refl
+    exchange true true false false = refl
+    exchange true false true true = refl
+    exchange true false true false = refl
+    exchange true false false true = refl
+    exchange true false false false = refl
+    exchange false true true true = refl
+    exchange false true true false = refl
+    exchange false true false true = refl
+    exchange false true false false = refl
+    exchange false false true true = refl
+    exchange false false true false = refl
+    exchange false false false true = refl
+    exchange false false false false = refl
+
+pub oddly-xor : (l a b c : SmallSet) → ((i : ℕ) → has c i ≡ xor (has a i) (has b i)) → oddly l c ≡ xor (oddly l a) (oddly l b)
+unfolding xor
+oddly-xor l a b c h =
+    ap odd (count-same 64 (λ i. has l i && has c i) (λ i. xor (has l i && has a i) (has l i && has b i)) (λ i _. ap (λ x. has l i && x) (h i) ∙ spread (has l i) (has a i) (has b i)))
+    ∙ odd-count-xor 64 (λ i. has l i && has a i) (λ i. has l i && has b i)
+  where
+    spread : (x y z : Bool) → (x && xor y z) ≡ xor (x && y) (x && z)
+    spread true y z = refl
+    spread false y z = refl

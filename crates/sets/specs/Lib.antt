@@ -1,3 +1,4 @@
 pub mod Members
 pub mod Sums
+pub mod Parity
 pub mod Steps

@@ -4,7 +4,8 @@ ghost use Prim.Native.Nat.{ℕ, _≤_};
 ghost use lib.Dec.{eqb, ltb};
 ghost use Rattle.std.specs.Options.{Cases as BySome};
 ghost use Rattle.std.specs.Orderings.{Decides};
-ghost use Rattle.sets.specs.Members.{has, odd};
+ghost use Rattle.sets.specs.Members.{has};
+ghost use Rattle.sets.specs.Parity.{oddly};
 ghost use Rattle.sets.specs.Steps.{Empty, Least};
 ghost use Rattle.sets.specs.Sums.{count};
 use crate::members::Members;
@@ -63,7 +64,8 @@ impl SmallSet {
 
     /// The numbers that are in one of the two sets and not in both: their sum over GF(2).
     pub fn symmetric_difference(self, other: SmallSet) -> SmallSet
-        ensures { λ r. ⌜ ((i : ℕ) → has r i ≡ xor (has self i) (has other i)) ⌝ }
+        ensures members { λ r. ⌜ ((i : ℕ) → has r i ≡ xor (has self i) (has other i)) ⌝ }
+        ensures parity { λ r. ⌜ ((t : SmallSet) → oddly t r ≡ xor (oddly t self) (oddly t other)) ⌝ }
     {
         SmallSet {
             bits: self.bits ^ other.bits,
@@ -88,7 +90,7 @@ impl SmallSet {
 
     /// Whether the two sets have an odd number of members in common.
     pub fn meets_oddly(self, other: SmallSet) -> bool
-        ensures { λ r. ⌜ r ≡ odd (count 64 (λ i. has self i && has other i)) ⌝ }
+        ensures { λ r. ⌜ r ≡ oddly self other ⌝ }
     {
         self.intersection(other).len() % 2 == 1
     }

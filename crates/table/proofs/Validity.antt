@@ -19,7 +19,9 @@ use Rattle.table.proofs.Clashes.{clash-pair, clash-cover}
 use Rattle.table.proofs.Counts.{count-ascending}
 use Rattle.table.proofs.Sizes.{place-below, place-mod}
 use Rattle.table.proofs.Blocks.{within}
-use Rattle.table.proofs.Formed.{Formed}
+use Rattle.table.proofs.Formed.{Formed, formed}
+use Rattle.table.specs.declared.table.Table.{Table}
+use Rattle.table.specs.Held.{contents}
 
 shared-swap : (t : Contents) (d e : ℕ) → shared t d e ≡ shared t e d
 shared-swap t d e = count-same (t .v) (λ p. has-point t d p && has-point t e p) (λ p. has-point t e p && has-point t d p) (λ p _. and-comm (has-point t d p) (has-point t e p))
@@ -100,3 +102,7 @@ module _ (t : Contents) (f : Formed t) where
       pairs = pairs;
       covers = covers;
     }
+
+-- every table is valid
+pub valid-table : (t : Table) → Valid (contents t)
+valid-table t = valid (contents t) (formed (t .draft)) (t .sound)

@@ -37,6 +37,10 @@ abbrev pub Read : List ℕ → Result Table TableFault → Type 0
 Read bs (Ok t) = Accepted bs t
 Read bs (Err f) = Refused bs f
 
+-- no other answer fits the bytes
+abbrev pub OneAnswer : List ℕ → Result Table TableFault → Type 0
+OneAnswer bs r = (s : Result Table TableFault) → Read bs s → s ≡ r
+
 -- ---- writing, where the output held `old` before and holds `new` after
 
 -- the first m bytes are the table's and read as that very table, and the others are as they were
@@ -48,9 +52,10 @@ pub record Written (t : Table) (old new : List ℕ) (m : ℕ) : Type 0 where
   pub length-so : length new ≡ length old
   pub again : (r : Result Table TableFault) → Read (take m new) r → r ≡ Ok t
 
--- the output is too short for the table, and as it was
+-- the output is too short for the table, which it never is with 503 bytes, and as it was
 pub record TooNarrow (t : Table) (old new : List ℕ) : Type 0 where
   pub short : length old < length (bytesOf (contents t))
+  pub limit : length old < 503
   pub kept : new ≡ old
 
 abbrev pub Wrote : Table → List ℕ → List ℕ → Result ℕ Narrow → Type 0

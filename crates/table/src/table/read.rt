@@ -6,7 +6,7 @@ ghost use Rattle.std.specs.declared.option.Option.the-variants.{Some};
 ghost use Rattle.table.specs.Place.{byte, full};
 ghost use Rattle.table.specs.Reading.{fault};
 ghost use Rattle.table.specs.Refusals.{Passed};
-ghost use Rattle.table.specs.Answers.{Read};
+ghost use Rattle.table.specs.Answers.{Read, OneAnswer};
 ghost use Rattle.table.specs.Stages.{Asked, Got, Sized, Filled, Spelt};
 ghost use Rattle.table.specs.Numbers.{gradeNumber};
 use super::Draft;
@@ -123,7 +123,8 @@ impl Reader<'_> {
 impl Table {
     /// Reads a table from its bytes, all of them.
     pub fn read(bytes: &[u8]) -> Result<Table, TableFault>
-        ensures { λ r. ⌜ Read (now (bytes .entry)) r ⌝ }
+        ensures answer { λ r. ⌜ Read (now (bytes .entry)) r ⌝ }
+        ensures one { λ r. ⌜ OneAnswer (now (bytes .entry)) r ⌝ }
     {
         let draft = Reader { bytes }.draft()?;
         match draft.clash() {

@@ -5,8 +5,7 @@ use lib.Dec.{eqb}
 use Rattle.table.specs.Contents.{load, BehindEach}
 use Rattle.table.specs.Numbers.{gradeNumber}
 use Rattle.table.specs.Held.{contents}
-use Rattle.table.proofs.Formed.{formed}
-use Rattle.table.proofs.Validity.{valid}
+use Rattle.table.proofs.Validity.{valid-table}
 use Rattle.table.proofs.Load.{behind-each}
 use Rattle.table.proofs.table.Table.load.Needs as need
 
@@ -16,4 +15,4 @@ returns-in-Steiner c =
     let per : ℕ = (t .draft .v - 1) / (t .draft .k - 1) in
     let e : (c .v .result - 1) / (c .k .result - 1) ≡ load (contents t) =
     ap₂ (λ x y. (x - 1) / (y - 1)) (c .v .ensures) (c .k .ensures) ∙ sym (ap (λ g. cond (eqb (gradeNumber g) 2) per 0) (c .in-Steiner .is)) in
-    record { value = e; counts = λ g. subst (BehindEach (contents t)) (sym e) (behind-each (contents t) (valid (contents t) (formed (t .draft)) (t .sound)) g) }
+    record { value = e; counts = λ g. subst (BehindEach (contents t)) (sym e) (behind-each (contents t) (valid-table t) g) }

@@ -8,12 +8,15 @@ use Rattle.table.specs.Contents.{bytesOf}
 use Rattle.table.specs.Held.{contents}
 use Rattle.table.proofs.Rounds.{bytes-length, bytes-at}
 use Rattle.table.proofs.Rereads.{reread}
+use Rattle.table.proofs.Sizes.{all-below}
 use Rattle.table.proofs.table.Table.write.Needs as need
 
 pub returns-then-out-size : need.returns-then-out-size
 returns-then-out-size c =
     let l = bytes-length (contents (c .args .self .now)) in
-    record { short = omega (arith, c .size-size .ensures); kept = refl }
+    let t = c .args .self .now .draft in
+    let most = all-below (t .n) (t .k) (omega (arith, t .records, t .checks)) (t .width .1) in
+    record { short = omega (arith, c .size-size .ensures); limit = omega (arith, c .size-size .ensures); kept = refl }
 
 pub returns : need.returns
 returns c =
