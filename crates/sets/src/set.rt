@@ -10,6 +10,9 @@ ghost use Rattle.sets.specs.Steps.{Empty, Least};
 ghost use Rattle.sets.specs.Sums.{count};
 use crate::members::Members;
 
+/// Members are below this.
+const LIMIT: usize = 64;
+
 /// A set of numbers from 0 to 63. Any number may be asked for or given: past 63 none is a member, and none is added.
 #[derive(Clone, Copy, Eq, Debug)]
 pub struct SmallSet {
@@ -29,7 +32,7 @@ impl SmallSet {
     pub fn of(number: usize) -> SmallSet
         ensures { λ r. ⌜ ((i : ℕ) → has r i ≡ (eqb i number && ltb i 64)) ⌝ }
     {
-        if number < 64 {
+        if number < LIMIT {
             SmallSet { bits: 1 << number }
         } else {
             SmallSet::empty()
@@ -41,7 +44,7 @@ impl SmallSet {
         ensures member { λ r. ⌜ r ≡ has self number ⌝ }
         ensures past { λ r. ⌜ (64 ≤ number → r ≡ false) ⌝ }
     {
-        number < 64 && self.bits >> number & 1 == 1
+        number < LIMIT && self.bits >> number & 1 == 1
     }
 
     /// This set with `number` added.

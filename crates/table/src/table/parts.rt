@@ -63,7 +63,7 @@ impl Table {
         ensures value { λ r. ⌜ r ≡ load (contents (now (self .entry))) ⌝ }
         ensures counts { λ r. ⌜ (contents (now (self .entry)) .grade ≡ 2 → BehindEach (contents (now (self .entry))) r) ⌝ }
     {
-        match self.draft.grade {
+        match self.grade() {
             Grade::Packing => 0,
             Grade::Steiner => (self.v() - 1) / (self.k() - 1),
         }
