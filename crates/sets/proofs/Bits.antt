@@ -1,6 +1,6 @@
 -- The binary digits of numbers, and so the members of sets: the one place for lemmas on bits. Assumes nothing.
 use mathlib.Core.Path.{_≡_, refl, sym, ap, ap₂, subst, _∙_}
-use mathlib.Core.Bool.{Bool, true, false, not, cond, xor, _&&_, _||_, and-true, and-false}
+use mathlib.Core.Bool.{Bool, true, false, not, cond, xor, _&&_, _||_, and-true}
 use mathlib.Core.Logic.{⊎-elim}
 use Prim.Native.Nat.{ℕ, zero, suc, _+_, _-_, _*_, _/_, _%_, _^_, _<_, _≤_}
 use native.Mathlib.Nat.{pow-suc}
@@ -8,7 +8,7 @@ use native.Mathlib.Omega.{arith}
 use lib.Bits.{bitAnd, bitOr, bitXor, and-shr, or-shr, xor-shr, and-mod, or-mod, xor-mod}
 use lib.Count.{ones, ones-step, trailingZeros, under}
 use lib.Dec.{eqb, ltb, eqb·suc-suc, eqb·zero-suc, eqb·suc-zero}
-use Rattle.std.proofs.shelf.Bits.{shr-shr, pow-below}
+use Rattle.std.proofs.shelf.Bits.{shr-shr}
 use Rattle.std.proofs.shelf.Tests.{cases-lt, cases-bool, eqb-true, and-left, and-right, and-from, le-ltb, lt-ltb}
 use Rattle.sets.specs.declared.set.SmallSet.{SmallSet}
 use Rattle.sets.specs.Members.{odd, digit, has}

@@ -1,6 +1,6 @@
 -- The points of a contents's blocks.
-use mathlib.Core.Path.{_≡_, refl, sym, ap, ap₂, _∙_}
-use mathlib.Core.Bool.{Bool, true, false, _&&_}
+use mathlib.Core.Path.{_≡_, ap₂, _∙_}
+use mathlib.Core.Bool.{true, false, _&&_}
 use mathlib.Core.Logic.{⊎-elim}
 use Prim.Native.Nat.{ℕ, _+_, _*_, _<_, _≤_}
 use native.Mathlib.Omega.{arith}
@@ -8,7 +8,6 @@ use lib.Dec.{eqb}
 use Rattle.std.proofs.shelf.Tests.{cases-bool, eqb-true, and-left}
 use Rattle.sets.specs.Members.{has}
 use Rattle.sets.specs.Sums.{count}
-use Rattle.table.specs.Ranges.{some}
 use Rattle.table.specs.Contents.{Contents, has-point, shared}
 use Rattle.sets.proofs.Sums.{count-same, count-past}
 use Rattle.sets.specs.declared.set.SmallSet.{SmallSet}

@@ -1,19 +1,17 @@
 -- The fault of bytes, from the first byte that is not what it must be.
-use mathlib.Core.Path.{_≡_, refl, sym, ap, ap₂, subst, _∙_}
-use mathlib.Core.Bool.{Bool, true, false, cond, _&&_}
+use mathlib.Core.Path.{_≡_, sym, ap, subst, _∙_}
+use mathlib.Core.Bool.{true, false, cond, _&&_}
 use mathlib.Core.List.{List}
-use mathlib.Core.Logic.{_⊎_, inl, inr, ⊎-elim}
-use Prim.Native.Nat.{ℕ, suc, _+_, _-_, _*_, _%_, _<_, _≤_}
+use Prim.Native.Nat.{ℕ, _+_, _-_, _<_, _≤_}
 use native.Mathlib.Omega.{arith}
-use lib.Dec.{eqb, ltb, leb}
+use lib.Dec.{ltb, leb}
 use lib.ListN.{length}
 use borrow.Author.Count.{below-more}
 use Rattle.std.proofs.shelf.Tests.{lt-ltb, le-ltb, le-leb, lt-leb, ltb-true, leb-true, cond-true, cond-false, and-right, and-left, and-from, and-parts}
 use Rattle.std.specs.declared.option.Option.{Option}
-use Rattle.std.specs.declared.option.Option.the-variants.{Some, None}
+use Rattle.std.specs.declared.option.Option.the-variants.{Some}
 use Rattle.table.specs.declared.fault.TableFault.{TableFault}
-use Rattle.table.specs.declared.fault.TableFault.the-variants.{Short, Size, Point, Tail}
-use Rattle.table.specs.Ranges.{every, first}
+use Rattle.table.specs.declared.fault.TableFault.the-variants.{Short}
 use Rattle.table.specs.Place.{byte, lowest, highest, full, fits, contentsOf}
 use Rattle.table.specs.Reading.{misfit, clash, fault}
 use Rattle.table.specs.Refusals.{Passed}

@@ -70,7 +70,7 @@ module _ (t : Contents) (valid : Valid t) (two : t .grade ≡ 2) (p : ℕ) (lp :
   load-is =
       let most : suc (count (t .v) (λ q. true && not (eqb q p))) ≡ t .v = sym (count-without (t .v) p (λ q. true) lp refl) ∙ count-all (t .v) in
       let prod : count (t .n) (λ d. has-point t d p) * (t .k - 1) ≡ t .v - 1 = sym pairs-by-blocks ∙ turn ∙ sym (ap (λ k. k - 1) (sym most) ∙ less (count (t .v) (λ q. true && not (eqb q p)))) in
-      let wide : 2 ≤ t .k = valid .k-size .0 in
+      let wide : 2 ≤ t .k = valid .limits .k-low in
       let pos : 0 < t .k - 1 = omega arith in
       sym (mul-div-cancel (count (t .n) (λ d. has-point t d p)) pos) ∙ ap (λ x. x / (t .k - 1)) prod ∙ sym (ap (λ (z : Bool). cond z ((t .v - 1) / (t .k - 1)) 0) (eq-eqb (t .grade) 2 two))
     where

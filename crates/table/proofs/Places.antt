@@ -1,15 +1,13 @@
 -- What each byte must be, part by part.
-use mathlib.Core.Path.{_≡_, refl, sym, ap, ap₂, subst, _∙_}
-use mathlib.Core.Bool.{Bool, true, false, cond, _&&_}
+use mathlib.Core.Path.{_≡_, refl, ap, _∙_}
+use mathlib.Core.Bool.{Bool, cond, _&&_}
 use mathlib.Core.List.{List}
-use Prim.Native.Nat.{ℕ, suc, _+_, _-_, _*_, _%_, _<_, _≤_}
+use Prim.Native.Nat.{ℕ, suc, _+_, _-_, _%_, _<_, _≤_}
 use native.Mathlib.Omega.{arith}
-use lib.Dec.{eqb, ltb, leb}
-use lib.ListN.{length}
+use lib.Dec.{eqb, ltb}
 use Rattle.std.proofs.shelf.Tests.{lt-ltb, le-ltb, eq-eqb, ne-eqb, cond-true, cond-false, and-right, and-left, and-from}
-use Rattle.table.specs.declared.fault.TableFault.{TableFault}
-use Rattle.table.specs.declared.fault.TableFault.the-variants.{Short, Size, Point, Tail}
-use Rattle.table.specs.Place.{byte, many, lowest, highest, full, fits, contentsOf}
+use Rattle.table.specs.declared.fault.TableFault.the-variants.{Size, Point, Tail}
+use Rattle.table.specs.Place.{byte, many, lowest, highest, full}
 use Rattle.table.specs.Reading.{misfit}
 
 pub five : (j : ℕ) → 5 + j ≡ suc (suc (suc (suc (suc j))))

@@ -1,13 +1,13 @@
 -- Reading and writing undo one another.
 use mathlib.Core.Path.{_≡_, refl, sym, ap, ap₂, subst, _∙_}
-use mathlib.Core.Bool.{Bool, true, false, cond, _&&_, _||_}
+use mathlib.Core.Bool.{true, false, cond}
 use mathlib.Core.List.{List}
-use mathlib.Core.Logic.{_⊎_, inl, inr, ⊎-elim}
+use mathlib.Core.Logic.{_⊎_, ⊎-elim}
 use Prim.Native.Nat.{ℕ, zero, suc, _+_, _-_, _*_, _%_, _<_, _≤_}
 use native.Mathlib.Nat.{zero-add, zero-mod}
 use native.Mathlib.Omega.{arith}
-use lib.Dec.{eqb, ltb, leb}
-use lib.ListN.{length, getD}
+use lib.Dec.{eqb, ltb}
+use lib.ListN.{length}
 use Rattle.std.proofs.shelf.Tests.{cases-lt, cases-eq, lt-ltb, le-ltb, eq-eqb, ne-eqb, cond-true, cond-false, both-ways}
 use Rattle.std.proofs.shelf.Lists.{ext-getD}
 use Rattle.std.proofs.shelf.Counted.{length-map-counting, getD-map-counting}
@@ -162,12 +162,12 @@ module _ (t : Contents) (f : Formed t) where
 
   fit : (i : ℕ) → i < size t → fits (bytesOf t) i ≡ true
   fit zero h = let e = bytes-at t 0 h in fits-from (bytesOf t) 0 (omega arith) (omega arith) (omega arith)
-  fit (suc zero) h = let e = read-v in let a = f .v-low in let b = f .v-high in fits-from (bytesOf t) 1 (omega arith) (omega arith) (omega arith)
+  fit (suc zero) h = let e = read-v in let a = f .limits .v-low in let b = f .limits .v-high in fits-from (bytesOf t) 1 (omega arith) (omega arith) (omega arith)
   fit (suc (suc zero)) h =
-      let e = read-n in let v = read-v in let a = f .n-low in let b = f .n-high in let c = f .v-low in
+      let e = read-n in let v = read-v in let a = f .limits .n-low in let b = f .limits .units in let c = f .limits .v-low in
       fits-from (bytesOf t) 2 (omega arith) (omega arith) (omega arith)
   fit (suc (suc (suc zero))) h =
-      let e = read-k in let v = read-v in let a = f .k-low in let b = f .k-high in let c = f .narrow in
+      let e = read-k in let v = read-v in let a = f .limits .k-low in let b = f .limits .k-high in let c = f .limits .narrow in
       fits-from (bytesOf t) 3 (omega arith) (omega arith) (omega arith)
   fit (suc (suc (suc (suc zero)))) h = let e = bytes-at t 4 h in let g = read-n in fits-from (bytesOf t) 4 (omega arith) (omega arith) (omega arith)
   fit (suc (suc (suc (suc (suc j))))) h =

@@ -1,9 +1,9 @@
 -- The fault of bytes tells what it says.
-use mathlib.Core.Path.{_≡_, refl, sym, ap, subst, _∙_}
+use mathlib.Core.Path.{_≡_, sym, subst, _∙_}
 use mathlib.Core.Bool.{Bool, true, false, cond, _&&_, _||_}
 use mathlib.Core.List.{List}
 use mathlib.Core.Logic.{_⊎_, inl, inr, ⊎-elim}
-use Prim.Native.Nat.{ℕ, suc, _+_, _*_, _<_, _≤_}
+use Prim.Native.Nat.{ℕ, _+_, _<_, _≤_}
 use native.Mathlib.Omega.{arith}
 use lib.Dec.{eqb, ltb, leb}
 use lib.ListN.{length}
@@ -12,11 +12,11 @@ use Rattle.std.specs.declared.option.Option.{Option}
 use Rattle.std.specs.declared.option.Option.the-variants.{Some, None}
 use Rattle.table.specs.declared.fault.TableFault.{TableFault}
 use Rattle.table.specs.declared.fault.TableFault.the-variants.{Short, Size, Point, Tail, Pair, Cover}
-use Rattle.table.specs.Ranges.{every, some, first}
+use Rattle.table.specs.Ranges.{every, first}
 use Rattle.table.specs.Contents.{Contents, has-point, shared, Joined}
 use Rattle.table.specs.Place.{many, full, fits, contentsOf}
 use Rattle.table.specs.Reading.{apart, together, joined, misfit, clash, fault}
-use Rattle.table.specs.Refusals.{Passed, Wrong, Whole, Apart, Clashing, Uncovered, Told}
+use Rattle.table.specs.Refusals.{Wrong, Whole, Apart, Clashing, Uncovered, Told}
 use Rattle.table.proofs.Ranges.{every-below, every-where, some-at, some-where, first-most, first-end, first-fails}
 use Rattle.table.proofs.Faults.{past-not}
 

@@ -1,18 +1,16 @@
 -- A formed contents without clash is valid.
-use mathlib.Core.Path.{_≡_, refl, sym, ap, ap₂, subst, _∙_}
-use mathlib.Core.Bool.{Bool, true, false, cond, _&&_, _||_, and-comm}
+use mathlib.Core.Path.{_≡_, refl, sym, ap, subst}
+use mathlib.Core.Bool.{true, false, _&&_, _||_, and-comm}
 use mathlib.Core.Logic.{_⊎_, inl, inr, ⊎-elim}
 use Prim.Native.Nat.{ℕ, zero, suc, _+_, _-_, _*_, _%_, _<_, _≤_}
 use native.Mathlib.Omega.{arith}
-use lib.Dec.{eqb, ltb, leb}
+use lib.Dec.{leb}
 use Rattle.std.specs.Options.{isSome}
-use Rattle.std.proofs.shelf.Tests.{cases-lt, cases-order, lt-ltb, eq-eqb, eqb-true, leb-true, lt-leb, and-parts, or-cases, both-ways, cond-true, cond-false}
-use Rattle.std.specs.declared.option.Option.the-variants.{Some, None}
-use Rattle.table.specs.declared.fault.TableFault.the-variants.{Pair, Cover}
+use Rattle.std.proofs.shelf.Tests.{cases-lt, cases-order, leb-true, lt-leb, and-parts, or-cases, both-ways}
 use Rattle.sets.specs.Sums.{count}
 use Rattle.sets.proofs.Sums.{count-same}
-use Rattle.table.specs.Ranges.{every, some, first}
-use Rattle.table.specs.Contents.{Contents, Valid, points, has-point, shared, Joined}
+use Rattle.table.specs.Ranges.{every, first}
+use Rattle.table.specs.Contents.{Contents, Valid, has-point, shared, Joined}
 use Rattle.table.specs.Reading.{apart, together, joined, clash}
 use Rattle.table.proofs.Ranges.{every-below, some-where, first-end, first-all}
 use Rattle.table.proofs.Clashes.{clash-pair, clash-cover}
@@ -91,11 +89,7 @@ module _ (t : Contents) (f : Formed t) where
 
     pub valid : Valid t
     valid = record {
-      v-size = (f .v-low, f .v-high);
-      n-size = (f .n-low, omega (arith, f .n-high, f .v-low));
-      k-size = (f .k-low, f .k-high);
-      units = f .n-high;
-      narrow = f .narrow;
+      limits = f .limits;
       grades = f .grades;
       within = λ d p a h. within t (f .high) d p h;
       blocks = blocks;

@@ -33,13 +33,20 @@ shared t d e = count (t .v) (λ p. has-point t d p && has-point t e p)
 abbrev pub Joined : Contents → ℕ → ℕ → Type 0
 Joined t p q = (d : ℕ) × (d < t .n) × (has-point t d p ≡ true) × (has-point t d q ≡ true)
 
+-- the sizes are within their limits
+pub record Limits (v n k : ℕ) : Type 0 where
+  pub v-low : 2 ≤ v
+  pub v-high : v ≤ 40
+  pub n-low : 1 ≤ n
+  pub n-high : n ≤ 62
+  pub k-low : 2 ≤ k
+  pub k-high : k ≤ 8
+  pub units : n + v ≤ 64
+  pub narrow : k ≤ v
+
 -- the table is one that a rack can have
 pub record Valid (t : Contents) : Type 0 where
-  pub v-size : (2 ≤ t .v) × (t .v ≤ 40)
-  pub n-size : (1 ≤ t .n) × (t .n ≤ 62)
-  pub k-size : (2 ≤ t .k) × (t .k ≤ 8)
-  pub units : t .n + t .v ≤ 64
-  pub narrow : t .k ≤ t .v
+  pub limits : Limits (t .v) (t .n) (t .k)
   pub grades : (t .grade ≡ 1) ⊎ (t .grade ≡ 2)
   -- each block has k points, all below v
   pub within : (d p : ℕ) → d < t .n → has-point t d p ≡ true → p < t .v

@@ -1,9 +1,9 @@
 -- What each byte of a table must be, given the bytes before it.
-use mathlib.Core.Bool.{Bool, true, false, cond, _&&_}
+use mathlib.Core.Bool.{Bool, cond, _&&_}
 use mathlib.Core.List.{List}
 use Prim.Native.Nat.{ℕ, zero, suc, _+_, _-_, _*_, _%_, min}
 use lib.Dec.{ltb, leb, eqb}
-use lib.ListN.{getD, length}
+use lib.ListN.{getD}
 use Rattle.table.specs.Contents.{Contents}
 
 -- byte i, or 0 past the end

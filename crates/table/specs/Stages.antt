@@ -2,13 +2,14 @@
 use mathlib.Core.Path.{_≡_}
 use mathlib.Core.Bool.{cond}
 use mathlib.Core.List.{List}
-use Prim.Native.Nat.{ℕ, _+_, _*_, _≤_, _<_}
+use Prim.Native.Nat.{ℕ, _+_, _≤_, _<_}
 use lib.Dec.{ltb}
 use lib.ListN.{getD, length}
 use Rattle.table.specs.declared.fault.TableFault.{TableFault}
 use Rattle.table.specs.declared.table.Sizes.{Sizes}
 use Rattle.table.specs.declared.table.Draft.{Draft}
-use Rattle.table.specs.Place.{byte, lowest, highest, full, fits, contentsOf}
+use Rattle.table.specs.Contents.{Limits}
+use Rattle.table.specs.Place.{byte, lowest, highest, full, contentsOf}
 use Rattle.table.specs.Reading.{misfit}
 use Rattle.table.specs.Refusals.{Passed}
 use Rattle.table.specs.Held.{draftContents}
@@ -33,13 +34,7 @@ pub record Sized (bs : List ℕ) (s : Sizes) : Type 0 where
   pub v-is : s .v ≡ byte bs 1
   pub n-is : s .n ≡ byte bs 2
   pub k-is : s .k ≡ byte bs 3
-  pub v-low : 2 ≤ s .v
-  pub v-high : s .v ≤ 40
-  pub n-low : 1 ≤ s .n
-  pub n-high : s .n + s .v ≤ 64
-  pub k-low : 2 ≤ s .k
-  pub k-high : s .k ≤ 8
-  pub narrow : s .k ≤ s .v
+  pub limits : Limits (s .v) (s .n) (s .k)
 
 -- ps has the first m points of the bytes, and 0 from there on
 abbrev pub Filled : List ℕ → ℕ → List ℕ → Type 0

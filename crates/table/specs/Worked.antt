@@ -3,10 +3,8 @@ use mathlib.Core.Path.{_≡_}
 use mathlib.Core.List.{List, [], _∷_, _++_}
 use Prim.Native.Nat.{ℕ}
 use lib.ListN.{set, take}
-use Rattle.std.specs.declared.option.Option.{Option}
 use Rattle.std.specs.declared.option.Option.the-variants.{Some, None}
-use Rattle.table.specs.declared.fault.TableFault.{TableFault}
-use Rattle.table.specs.declared.fault.TableFault.the-variants.{Short, Size, Point, Tail, Pair, Cover}
+use Rattle.table.specs.declared.fault.TableFault.the-variants.{Short, Point, Tail, Pair, Cover}
 use Rattle.table.specs.Contents.{load}
 use Rattle.table.specs.Place.{contentsOf}
 use Rattle.table.specs.Reading.{fault}

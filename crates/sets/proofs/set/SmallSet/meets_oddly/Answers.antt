@@ -1,5 +1,4 @@
 use mathlib.Core.Path.{ap, _∙_}
-use lib.Dec.{eqb}
 use Rattle.sets.specs.Members.{odd}
 use Rattle.sets.proofs.Sums.{count-same}
 use Rattle.sets.proofs.set.SmallSet.meets_oddly.Needs as need

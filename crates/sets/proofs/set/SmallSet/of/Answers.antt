@@ -1,5 +1,4 @@
-use mathlib.Core.Path.{_≡_, ap, sym, _∙_}
-use mathlib.Core.Bool.{_&&_}
+use mathlib.Core.Path.{ap, sym, _∙_}
 use Rattle.std.proofs.shelf.Bits.{one-shl}
 use Rattle.sets.specs.Members.{digit}
 use Rattle.sets.proofs.Bits.{digit-one, eq-below, eq-past}

@@ -1,21 +1,21 @@
-use mathlib.Core.Path.{_≡_, refl, sym, ap, ap₂, _∙_}
+use mathlib.Core.Path.{sym, ap, ap₂, _∙_}
 use mathlib.Core.Bool.{_||_}
-use Prim.Native.Nat.{ℕ, _+_, _*_, _<_, _≤_}
+use Prim.Native.Nat.{ℕ, _+_, _*_}
 use native.Mathlib.Omega.{arith}
 use lib.Dec.{eqb}
 use lib.ListN.{getD}
-use Rattle.sets.specs.Members.{has}
 use Rattle.table.specs.Ranges.{some}
 use Rattle.table.specs.Contents.{has-point}
 use Rattle.sets.proofs.Bits.{eq-below}
 use Rattle.table.proofs.Ranges.{some-step, some-none}
-use Rattle.table.proofs.Sizes.{place-below, all-below}
+use Rattle.table.proofs.Sizes.{place-below, few-points}
+use Rattle.table.proofs.Formed.{limits-of}
 use Rattle.table.proofs.table.Draft.block.Needs as need
 
 pub index-self-d : need.index-self-d
 index-self-d c =
     let t = c .args .self .now in
-    omega (arith, place-below (c .args .d) (t .n) (t .k) (c .loop-j .j) (c .pre) (c .loop-j-test .taken), all-below (t .n) (t .k) (omega (arith, t .records, t .checks)) (t .width .1))
+    omega (arith, place-below (c .args .d) (t .n) (t .k) (c .loop-j .j) (c .pre) (c .loop-j-test .taken), few-points (limits-of t))
 
 pub loop-j-holds : need.loop-j-holds
 loop-j-holds c p = c .empty-block .ensures p ∙ sym (some-none _)

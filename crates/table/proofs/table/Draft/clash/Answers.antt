@@ -1,4 +1,4 @@
-use mathlib.Core.Path.{_≡_, refl, sym, ap, _∙_}
+use mathlib.Core.Path.{sym, ap}
 use Rattle.table.specs.Numbers.{gradeNumber}
 use Rattle.table.specs.Held.{draftContents}
 use Rattle.table.proofs.Clashes.{clash-pair, clash-near, clash-cover, clash-none}

@@ -1,10 +1,9 @@
-use mathlib.Core.Path.{_≡_, refl, sym, ap, ap₂, _∙_}
-use mathlib.Core.Bool.{Bool, _&&_}
-use Prim.Native.Nat.{ℕ, _<_, _≤_}
+use mathlib.Core.Path.{sym, ap, _∙_}
+use mathlib.Core.Bool.{_&&_}
 use native.Mathlib.Omega.{arith}
 use Rattle.std.proofs.shelf.Tests.{and-left, and-right, and-from}
 use Rattle.table.specs.Ranges.{some}
-use Rattle.table.specs.Contents.{Contents, has-point}
+use Rattle.table.specs.Contents.{has-point}
 use Rattle.table.specs.Reading.{together}
 use Rattle.table.specs.Held.{draftContents}
 use Rattle.table.proofs.Ranges.{some-none, some-more, some-at}

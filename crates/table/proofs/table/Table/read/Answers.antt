@@ -1,4 +1,4 @@
-use mathlib.Core.Path.{_≡_, refl, sym, ap, _∙_}
+use mathlib.Core.Path.{_≡_, sym, ap, _∙_}
 use native.Mathlib.Omega.{arith}
 use mathlib.Core.List.{List}
 use Prim.Native.Nat.{ℕ}
@@ -10,7 +10,6 @@ use Rattle.table.specs.Answers.{Refused, Read}
 use Rattle.table.proofs.Rereads.{one-answer}
 use Rattle.table.proofs.Tells.{told}
 use Rattle.table.specs.Reading.{clash, fault}
-use Rattle.table.specs.Place.{contentsOf}
 use Rattle.std.specs.Options.{isSome}
 use Rattle.table.specs.Contents.{bytesOf}
 use Rattle.table.specs.Held.{draftContents}

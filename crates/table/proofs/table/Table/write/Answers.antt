@@ -1,21 +1,21 @@
-use mathlib.Core.Path.{_≡_, refl, sym, ap, _∙_}
+use mathlib.Core.Path.{_≡_, refl, sym, _∙_}
 use native.Mathlib.Omega.{arith}
-use Prim.Native.Nat.{_<_, _≤_}
-use lib.ListN.{length, take, length-take, getD}
+use lib.ListN.{length, take, length-take}
 use lib.Seq.{getD-take}
 use Rattle.std.proofs.shelf.Lists.{ext-getD}
 use Rattle.table.specs.Contents.{bytesOf}
 use Rattle.table.specs.Held.{contents}
 use Rattle.table.proofs.Rounds.{bytes-length, bytes-at}
 use Rattle.table.proofs.Rereads.{reread}
-use Rattle.table.proofs.Sizes.{all-below}
+use Rattle.table.proofs.Sizes.{few-points}
+use Rattle.table.proofs.Formed.{limits-of}
 use Rattle.table.proofs.table.Table.write.Needs as need
 
 pub returns-then-out-size : need.returns-then-out-size
 returns-then-out-size c =
     let l = bytes-length (contents (c .args .self .now)) in
     let t = c .args .self .now .draft in
-    let most = all-below (t .n) (t .k) (omega (arith, t .records, t .checks)) (t .width .1) in
+    let most = few-points (limits-of t) in
     record { short = omega (arith, c .size-size .ensures); limit = omega (arith, c .size-size .ensures); kept = refl }
 
 pub returns : need.returns

@@ -1,6 +1,6 @@
 use Prim.Native.Nat.{ℕ, _<_, _≤_}
 use mathlib.Core.Path.{_≡_}
-use lib.ListN.{getD, length}
+use lib.ListN.{getD}
 use Rattle.table.specs.Contents.{byteOf}
 use Rattle.table.specs.Held.{contents}
 use Rattle.table.proofs.table.Table.write.Given as given

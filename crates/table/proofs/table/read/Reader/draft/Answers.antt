@@ -1,12 +1,12 @@
-use mathlib.Core.Path.{_≡_, refl, sym, ap, ap₂, subst, _∙_}
+use mathlib.Core.Path.{_≡_, sym, ap, ap₂, subst, _∙_}
 use mathlib.Core.Bool.{cond}
-use Prim.Native.Nat.{ℕ, _+_, _*_, _≤_}
+use Prim.Native.Nat.{_+_, _*_}
 use native.Mathlib.Omega.{arith}
 use lib.Dec.{ltb}
 use lib.ListN.{length}
 use Rattle.table.specs.Place.{byte, many, contentsOf}
 use Rattle.table.specs.Refusals.{Passed}
-use Rattle.table.proofs.Sizes.{all-below}
+use Rattle.table.proofs.Sizes.{few-points}
 use Rattle.table.proofs.SameContents.{same-contents}
 use Rattle.table.proofs.Points.{high-so, ascend-so, filled-past}
 use Rattle.table.proofs.table.read.Reader.draft.Needs as need
@@ -17,7 +17,7 @@ grade-requires c κs =
     let s = c .in-Continue-sizes .sizes in
     let z = c .in-Continue-sizes .ensures tt .0 in
     let m : s .n * s .k ≡ many bs = ap₂ (λ x y. x * y) (z .n-is) (z .k-is) in
-    record { place = omega arith; passed = c .in-Continue-points .ensures tt .1; small = omega (arith, all-below (s .n) (s .k) (omega (arith, z .n-high, z .v-low)) (z .k-high)) }
+    record { place = omega arith; passed = c .in-Continue-points .ensures tt .1; small = omega (arith, few-points (z .limits)) }
 
 pub ghost-result : need.ghost-result
 ghost-result c =
@@ -30,13 +30,13 @@ ghost-result c =
     let m : s .n * s .k ≡ many bs = ap₂ (λ x y. x * y) (z .n-is) (z .k-is) in (
       c .in-Continue-points .ensures tt .2,
       (
-        (z .v-low, z .v-high),
+        (z .limits .v-low, z .limits .v-high),
         (
-          (z .n-low, z .n-high),
+          (z .limits .n-low, z .limits .units),
           (
-            (z .k-low, z .k-high, z .narrow),
+            (z .limits .k-low, z .limits .k-high, z .limits .narrow),
             (
-              high-so bs ps (s .n * s .k) (s .v) f p m (z .v-is) (z .v-low),
+              high-so bs ps (s .n * s .k) (s .v) f p m (z .v-is) (z .limits .v-low),
               (
                 ascend-so bs ps (s .n * s .k) (s .k) f p m (z .k-is),
                 (λ i. filled-past bs ps (s .n * s .k) i f, tt),

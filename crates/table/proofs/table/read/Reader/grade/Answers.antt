@@ -1,7 +1,7 @@
-use mathlib.Core.Path.{_≡_, refl, sym, ap, _∙_}
-use Prim.Native.Nat.{_+_, _*_}
+use mathlib.Core.Path.{_≡_}
+use Prim.Native.Nat.{_+_}
 use native.Mathlib.Omega.{arith}
-use Rattle.table.specs.Place.{byte, many}
+use Rattle.table.specs.Place.{many}
 use Rattle.table.proofs.Places.{low-late, high-count, high-grade, misfit-late}
 use Rattle.table.proofs.table.read.Reader.grade.Needs as need
 

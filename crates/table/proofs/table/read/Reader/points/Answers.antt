@@ -1,13 +1,12 @@
 use mathlib.Core.Path.{_≡_, refl, sym, ap, ap₂, subst, _∙_}
-use mathlib.Core.Bool.{Bool, cond}
-use Prim.Native.Nat.{ℕ, _+_, _-_, _*_, _%_, _<_, _≤_}
+use mathlib.Core.Bool.{cond}
+use Prim.Native.Nat.{_+_, _-_, _*_, _%_, _<_}
 use native.Mathlib.Omega.{arith}
-use lib.Dec.{ltb, eqb}
-use lib.ListN.{getD, length, set, length-set}
-use Rattle.std.proofs.shelf.Tests.{eq-eqb, ne-eqb, cond-true, cond-false}
-use Rattle.table.specs.Place.{byte, many, lowest, highest}
+use lib.Dec.{eqb}
+use lib.ListN.{length-set}
+use Rattle.table.specs.Place.{byte, many}
 use Rattle.table.specs.Refusals.{Passed}
-use Rattle.table.proofs.Sizes.{all-below}
+use Rattle.table.proofs.Sizes.{few-points}
 use Rattle.table.proofs.Points.{filled-none, filled-more, filled-at, point-high, not-first, low-first, low-next, before}
 use Rattle.table.proofs.Places.{low-point, high-point, misfit-point}
 use Rattle.table.proofs.table.read.Reader.points.Needs as need
@@ -17,10 +16,10 @@ pub loop-i-holds : need.loop-i-holds
 loop-i-holds c = (filled-none (c .args .self .bytes .now) 496, c .pre .passed, refl)
 
 pub index-points-i : need.index-points-i
-index-points-i c = let s = c .args .sizes in omega (arith, all-below (s .n) (s .k) (omega arith) (omega arith))
+index-points-i c = omega (arith, few-points (c .pre .sized .limits))
 
 pub index-points-i-in-loop-i : need.index-points-i-in-loop-i
-index-points-i-in-loop-i c = let s = c .args .sizes in omega (arith, all-below (s .n) (s .k) (omega arith) (omega arith))
+index-points-i-in-loop-i c = omega (arith, few-points (c .pre .sized .limits))
 
 pub add-low : need.add-low
 add-low c =
@@ -54,7 +53,7 @@ loop-i-again c =
     let i = c .loop-i .i in
     let g = c .in-Continue-points .ensures tt in
     let e : 5 + i + 1 ≡ 5 + (i + 1) = omega arith in (
-      filled-more bs (c .loop-i .points) i (c .in-Continue-points .field-0) (c .loop-i .inv .0) (omega (arith, c .loop-i .inv .2, all-below (s .n) (s .k) (omega arith) (omega arith))) (g .is),
+      filled-more bs (c .loop-i .points) i (c .in-Continue-points .field-0) (c .loop-i .inv .0) (omega (arith, c .loop-i .inv .2, few-points (c .pre .sized .limits))) (g .is),
       subst (λ x. Passed bs x) e (g .passed),
       length-set (c .loop-i .points) i (c .in-Continue-points .field-0) ∙ c .loop-i .inv .2,
     )
