@@ -2,6 +2,8 @@
 mod fault;
 mod grade;
 mod table;
+#[cfg(test)]
+mod tests;
 mod worked;
 
 pub use fault::Narrow;
