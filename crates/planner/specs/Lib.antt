@@ -1,0 +1,6 @@
+pub mod Numerals
+pub mod Words
+pub mod Listed
+pub mod Fields
+pub mod Judged
+pub mod Tallied
