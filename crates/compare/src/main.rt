@@ -4,6 +4,7 @@ mod count;
 mod damage;
 mod edges;
 mod held;
+mod pairings;
 mod pairs;
 mod plain;
 mod samples;
@@ -15,7 +16,7 @@ use count::Count;
 use count::CountDisplay;
 use samples::BLOCKS_A;
 use samples::BLOCKS_F;
-use samples::triples;
+use samples::table_bytes;
 use std::io;
 use table::TableFault;
 use table::table_d;
@@ -51,33 +52,29 @@ fn limits(rt: &LibcRuntime, total: &mut Total) -> io::Result<()> {
     tell(rt, total, "n + v = 65, SIZE at 2", past)
 }
 
-// Whole tables that are made for it.
-fn made(rt: &LibcRuntime, total: &mut Total) -> io::Result<()> {
+// Tables whose blocks are pairs.
+fn paired(rt: &LibcRuntime, total: &mut Total) -> io::Result<()> {
     let heap = rt.alloc();
     println!(rt, "tables of pairs")?;
-    let largest = edges::largest(heap)?;
+    let largest = pairings::largest(heap)?;
     tell(rt, total, "n + v = 64, grade 1", largest)?;
-    let all = edges::all_pairs(heap)?;
-    tell(rt, total, "all pairs of v points, grade 2", all)
+    let whole = pairings::whole(heap)?;
+    tell(rt, total, "all pairs of v points", whole)?;
+    let left_out = pairings::left_out(heap)?;
+    tell(rt, total, "all but one, each in turn", left_out)?;
+    let repeated = pairings::repeated(heap)?;
+    tell(rt, total, "each in the place of each", repeated)
 }
 
 fn main(rt: LibcRuntime) -> io::Result<()> {
     let heap = rt.alloc();
+    let table_a = table_bytes(heap, 9, &BLOCKS_A, 2)?;
+    let table_f = table_bytes(heap, 7, &BLOCKS_F, 2)?;
     let mut total = Total::new();
     damaged(&rt, &mut total, "D", &table_d())?;
-    damaged(
-        &rt,
-        &mut total,
-        "A",
-        triples(heap, 9, &BLOCKS_A)?.as_slice(),
-    )?;
-    damaged(
-        &rt,
-        &mut total,
-        "F",
-        triples(heap, 7, &BLOCKS_F)?.as_slice(),
-    )?;
+    damaged(&rt, &mut total, "A", table_a.as_slice())?;
+    damaged(&rt, &mut total, "F", table_f.as_slice())?;
     limits(&rt, &mut total)?;
-    made(&rt, &mut total)?;
+    paired(&rt, &mut total)?;
     println!(rt, "{total}")
 }

@@ -28,13 +28,19 @@ pub const BLOCKS_F: [[u8; 3]; 7] = [
     [0, 2, 6],
 ];
 
-/// The bytes of the table of grade 2 that has these blocks.
-pub fn triples(heap: Global, v: u8, blocks: &[[u8; 3]]) -> Result<Vec<u8>, AllocError> {
+/// The bytes of the table that has these blocks.
+pub fn table_bytes<const K: usize>(
+    heap: Global,
+    v: u8,
+    blocks: &[[u8; K]],
+    grade: u8,
+) -> Result<Vec<u8>, AllocError> {
     let n = u8::try_from(blocks.len()).unwrap_or(u8::MAX);
-    let mut bytes = Vec::from_slice(heap, &[3, v, n, 3, n])?;
+    let k = u8::try_from(K).unwrap_or(u8::MAX);
+    let mut bytes = Vec::from_slice(heap, &[3, v, n, k, n])?;
     for block in blocks {
         bytes.extend_from_slice(block)?;
     }
-    bytes.extend_from_slice(&[1, 2])?;
+    bytes.extend_from_slice(&[1, grade])?;
     Ok(bytes)
 }
