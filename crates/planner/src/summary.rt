@@ -52,7 +52,7 @@ pub struct Summary {
 
 impl Summary {
     /// The summary of a table that was read from `bytes`.
-    pub fn of(table: &Table, bytes: &[u8]) -> Summary
+    pub(crate) fn of(table: &Table, bytes: &[u8]) -> Summary
         requires { ⌜ Accepted (now bytes) (now table) ⌝ }
         ensures { λ r. ⌜ SumsUp (now (bytes .entry)) r ⌝ }
     {
