@@ -38,7 +38,9 @@ impl Tally {
     }
 
     /// How many lines were counted.
-    pub fn lines(&self) -> u64 {
+    pub fn lines(&self) -> u64
+        ensures { λ r. ⌜ r ≡ now (self .entry) .lines ⌝ }
+    {
         self.lines
     }
 }
