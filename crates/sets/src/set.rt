@@ -123,7 +123,10 @@ impl PartialEq for SmallSet {
 
     ghost laws = { Keys.partial_equiv_from_equiv (Prim.search (comparing, rules)) };
 
-    fn eq(&self, other: &SmallSet) -> bool {
+    fn eq(&self, other: &SmallSet) -> bool
+        ensures value { result ≡ nat_eq self.now.bits other.now.bits }
+        ensures members { Decides result ((i : ℕ) → has self.now i ≡ has other.now i) }
+    {
         self.bits == other.bits
     }
 }

@@ -8,12 +8,12 @@ use Rattle.std.proofs.iter.Next.{firm}
 less : (m n : ℕ) → m ≡ suc n → n < m
 less m n e = omega arith
 
-pub returns : goal.returns
-returns c =
+pub returns-clause-goes : goal.returns-clause-goes
+returns-clause-goes c =
     let s = c.args.self.now.rest in
     let t = c.without-self.result in
-    let i = c.in-ok-least.least in
-    let l = c.in-ok-least.ensures in
+    let i = c.in_ok-least.least in
+    let l = c.in_ok-least.ensures in
     let e : count 64 (has s) ≡ suc (count 64 (has t)) =
     count_without 64 i (has s) l.small l.member ∙ sym (ap suc (count_same 64 (has t) (λ j. has s j && not (eqb j i)) (λ j _. c.without-self.ensures j))) in
-    record { steps = (l, c.without-self.ensures); goes = firm ((tt, tt, less (count 64 (has s)) (count 64 (has t)) e)) (λ h. search rules) }
+    firm (tt, tt, less (count 64 (has s)) (count 64 (has t)) e) (λ h. search rules)
