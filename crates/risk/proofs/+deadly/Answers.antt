@@ -26,8 +26,8 @@ deadly-sum-requires t c = (
   ),
 )
 
-pub overflow-add-sum : goal.overflow-add-sum
-overflow-add-sum t c =
+pub overflow_add-sum : goal.overflow_add-sum
+overflow_add-sum t c =
     let next = choose_next c.loop-highest.highest (c.loop-highest.highest + 1) (c.args.more - 1) c.args.more (omega arith) (omega arith) in
     omega (arith, c.deadly-sum.ensures.few, choose_grows (c.loop-highest.highest + 1) c.args.below c.args.more (omega arith))
 

@@ -6,8 +6,8 @@ use Rattle.risk.proofs.choose.Goals as goal
 pub loop-chosen-init : goal.loop-chosen-init
 loop-chosen-init c = sym (choose_none c.args.units)
 
-pub overflow-mul-sets : goal.overflow-mul-sets
-overflow-mul-sets c =
+pub overflow_mul-sets : goal.overflow_mul-sets
+overflow_mul-sets c =
     let n = c.args.units in
     let k = c.loop-chosen.chosen in
     let fits : choose n k * (n - k) < 2 ^ 64 = product_fits n k (omega arith) (omega arith) in

@@ -12,7 +12,7 @@ own = numerals_by_value AllDigits tells_by_index
 pub returns-in-Err : goal.returns-in-Err
 returns-in-Err c =
     let w = c.args.word.now in
-    let digits : AllDigits w = rw c.as-bytes.ensures.value at (c.all-digits.ensures.0 c.if-not-all-digits.false) in
+    let digits : AllDigits w = rw c.as_bytes.ensures.value at (c.all_digits.ensures.0 c.if-not-all_digits.false) in
     let some : 0 < length w = search rules in
     let misfit = OkIff-at_err _ _ _ _ (parse_digits own 8 w _ c.parse.ensures.value.0 digits) c.in-Err.is in
     ((some, digits), lt_of_not-le (λ small. misfit (some, omega arith)))

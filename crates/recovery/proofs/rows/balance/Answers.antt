@@ -17,10 +17,10 @@ loop-place-preserved-in-Some c =
     balance_adds _ _ _ _ c.loop-place.place (c.loop-place.place - 1) (omega arith) _ c.loop-place.invariant c.requires.shape c.requires.unit.1 (omega arith) (sym c.if-meets-oddly.ensures)
     c.in-Some.lead least.small lead c.with-set.result c.with-set.ensures
 
-pub loop-place-preserved-in-default : goal.loop-place-preserved-in-default
-loop-place-preserved-in-default c =
+pub loop-place-preserved-in_default : goal.loop-place-preserved-in_default
+loop-place-preserved-in_default c =
     let lead = c.requires.shape.leads (c.loop-place.place - 1) (omega arith) in
-    absurd (shares_one c.args.asked (at c.args.rows.now (c.loop-place.place - 1)) c.intersection.result lead.0 c.intersection.ensures lead.1 c.in-default.ensures)
+    absurd (shares_one c.args.asked (at c.args.rows.now (c.loop-place.place - 1)) c.intersection.result lead.0 c.intersection.ensures lead.1 c.in_default.ensures)
 
 pub returns : goal.returns
 returns c = let end : c.loop-place.place ≡ 0 = omega arith in subst (λ n. Balanced c.args.asked c.args.rows.now c.args.rank c.args.unit n c.loop-place.set) end c.loop-place.invariant

@@ -3,8 +3,8 @@ use Rattle.std.proofs.Common.{◌-◌, ◌*◌, ◌<◌, arith}
 use Rattle.std.proofs.lemmas.Nat.{div_below, mod_below, div-add-mod'}
 use Rattle.planner.proofs.place.Field.at.Goals as goal
 
-pub returns-in-default : goal.returns-in-default
-returns-in-default c =
+pub returns-in_default : goal.returns-in_default
+returns-in_default c =
     let i = c.args.at - 5 in
     let k = c.args.sizes.k in
     let inside : i < c.args.sizes.n * k = rw c.points-points.ensures at c.if-at-points.true in

@@ -11,7 +11,7 @@ pub loop-unit-init : goal.loop-unit-init
 loop-unit-init g c =
     let k = g.C.Cell in
     let t = contents c.args.self.now.table in
-    let all : c.into-iter-unit-iterator.result.rest ≡ c.args.missing = ap (λ m. m.rest) c.into-iter-unit-iterator.ensures.into-iter-gives ∙ c.iter-unit-items.ensures in
+    let all : c.into_iter-unit-iterator.result.rest ≡ c.args.missing = ap (λ m. m.rest) c.into_iter-unit-iterator.ensures.into_iter_gives ∙ c.iter-unit-items.ensures in
     subst (λ (s : SmallSet). Losing k.zero k.sum t c.args.missing s c.empty-lost.result) (sym all) (losing_starts k.zero k.sum t c.args.missing c.empty-lost.result c.empty-lost.ensures)
 
 pub loop-unit-preserved : goal.loop-unit-preserved

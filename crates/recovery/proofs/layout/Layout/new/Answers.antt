@@ -5,8 +5,8 @@ use Rattle.recovery.proofs.layout.Layout.new.Goals as goal
 pub below-units-requires : goal.below-units-requires
 below-units-requires c = omega (arith, c.n.ensures, c.v.ensures, (valid_table c.args.table).limits.units)
 
-pub invariant-of-result : goal.invariant-of-result
-invariant-of-result c = (
+pub invariant_of-result : goal.invariant_of-result
+invariant_of-result c = (
   c.groups-groups.ensures.wide,
   ((λ u. c.below-units.ensures u ∙ ap₂ (λ n v. ltb u (n + v)) c.n.ensures c.v.ensures), (c.groups-groups.ensures.grouped, tt)),
 )

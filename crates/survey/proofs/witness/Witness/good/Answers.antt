@@ -13,6 +13,6 @@ kept false false = refl
 
 pub returns : goal.returns
 returns c i =
-    c.symmetric-difference.ensures.members i
+    c.symmetric_difference.ensures.members i
     ∙ ap (xor (has c.args.self.now.units i)) (c.intersection-gone.ensures i)
     ∙ kept (has c.args.self.now.units i) (has c.args.missing i)

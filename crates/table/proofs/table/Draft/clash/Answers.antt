@@ -8,12 +8,12 @@ pub returns-in-Some : goal.returns-in-Some
 returns-in-Some c = let e = c.in-Some.ensures in sym (clash_pair (draft_contents c.args.self.now) c.in-Some.d e.0 e.1)
 
 pub returns-in-Packing : goal.returns-in-Packing
-returns-in-Packing c = sym (clash_near (draft_contents c.args.self.now) c.in-default.ensures (ap grade_number c.in-Packing.is))
+returns-in-Packing c = sym (clash_near (draft_contents c.args.self.now) c.in_default.ensures (ap grade_number c.in-Packing.is))
 
-pub returns-in-Some-first-loose : goal.returns-in-Some-first-loose
-returns-in-Some-first-loose c =
-    let e = c.in-Some-first-loose.ensures in
-    sym (clash_cover (draft_contents c.args.self.now) c.in-Some-first-loose.p c.in-default.ensures (ap grade_number c.in-Steiner.is) e.0 e.1)
+pub returns-in-Some-first_loose : goal.returns-in-Some-first_loose
+returns-in-Some-first_loose c =
+    let e = c.in-Some-first_loose.ensures in
+    sym (clash_cover (draft_contents c.args.self.now) c.in-Some-first_loose.p c.in_default.ensures (ap grade_number c.in-Steiner.is) e.0 e.1)
 
 pub returns-in-None : goal.returns-in-None
-returns-in-None c = sym (clash_none (draft_contents c.args.self.now) c.in-default.ensures c.in-None.ensures)
+returns-in-None c = sym (clash_none (draft_contents c.args.self.now) c.in_default.ensures c.in-None.ensures)

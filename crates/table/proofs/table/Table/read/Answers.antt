@@ -20,23 +20,23 @@ refused bs f e = record { is = e; told = told bs f e }
 pub returns-in-Some : goal.returns-in-Some
 returns-in-Some c =
     let bs = c.args.bytes.now in
-    let t = c.in-ok-draft.ensures in
+    let t = c.in_ok-draft.ensures in
     let f = c.in-Some.fault in
     let r : Read bs (Err f) = refused bs f (sound_at bs t.passed (omega arith) ∙ ap clash (sym t.says) ∙ sym c.in-Some.ensures) in
     record { answer = r; one = one_answer bs (Err f) r }
 
-pub returns-in-err-draft : goal.returns-in-err-draft
-returns-in-err-draft c =
+pub returns-in_err-draft : goal.returns-in_err-draft
+returns-in_err-draft c =
     let bs = c.args.bytes.now in
     let p = err_from_is_err_and c.from-residual.result c.from-residual.ensures.1 in
-    let r : Read bs (Err _) = refused bs _ c.in-err-draft.ensures in
+    let r : Read bs (Err _) = refused bs _ c.in_err-draft.ensures in
     rw (p.1, p.2) (record { answer = r; one = one_answer bs (Err _) r })
 
 pub returns-in-None : goal.returns-in-None
 returns-in-None c =
     let bs = c.args.bytes.now in
-    let t = c.in-ok-draft.ensures in
-    let d = c.in-ok-draft.draft in
+    let t = c.in_ok-draft.ensures in
+    let d = c.in_ok-draft.draft in
     let r : Read bs (Ok _) = record {
       no_fault = sound_at bs t.passed (omega arith) ∙ ap clash (sym t.says) ∙ sym c.in-None.ensures;
       says = t.says;

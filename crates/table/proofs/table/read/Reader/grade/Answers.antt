@@ -16,4 +16,4 @@ size-requires-2 c =
     let i = c.args.at + 1 in
     let m = many bs in
     let e : i ≡ 6 + m = omega (arith, c.requires.place) in
-    record { passed = c.in-ok-size.ensures.passed; low_is = low_late bs i (1 + m) (omega arith) (omega arith); high_is = high_grade bs i e; inside = omega arith; wrong_is = misfit_late bs i (omega arith) (omega arith) }
+    record { passed = c.in_ok-size.ensures.passed; low_is = low_late bs i (1 + m) (omega arith) (omega arith); high_is = high_grade bs i e; inside = omega arith; wrong_is = misfit_late bs i (omega arith) (omega arith) }

@@ -16,8 +16,8 @@ bounds-points-i c = omega (arith, few_points c.requires.sized.limits)
 pub bounds-points-i-in-loop-i : goal.bounds-points-i-in-loop-i
 bounds-points-i-in-loop-i c = omega (arith, few_points c.requires.sized.limits)
 
-pub overflow-add-low : goal.overflow-add-low
-overflow-add-low c =
+pub overflow_add-low : goal.overflow_add-low
+overflow_add-low c =
     let bs = c.args.self.bytes.now in
     let s = c.args.sizes in
     let i = c.loop-i.i in
@@ -46,9 +46,9 @@ loop-i-preserved c =
     let bs = c.args.self.bytes.now in
     let s = c.args.sizes in
     let i = c.loop-i.i in
-    let g = c.in-ok-points.ensures in
+    let g = c.in_ok-points.ensures in
     let e : 5 + i + 1 ≡ 5 + (i + 1) = omega arith in (
-      filled_more bs c.loop-i.points i c.in-ok-points.field-0 c.loop-i.invariant.0 (omega (arith, c.loop-i.invariant.2, few_points c.requires.sized.limits)) g.is,
+      filled_more bs c.loop-i.points i c.in_ok-points.field-0 c.loop-i.invariant.0 (omega (arith, c.loop-i.invariant.2, few_points c.requires.sized.limits)) g.is,
       subst (λ x. Passed bs x) e g.passed,
-      length-set c.loop-i.points i c.in-ok-points.field-0 ∙ c.loop-i.invariant.2,
+      length-set c.loop-i.points i c.in_ok-points.field-0 ∙ c.loop-i.invariant.2,
     )
