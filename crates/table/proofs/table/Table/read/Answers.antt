@@ -28,7 +28,7 @@ returns-in-Some c =
 pub returns-in_err-draft : goal.returns-in_err-draft
 returns-in_err-draft c =
     let bs = c.args.bytes.now in
-    let p = err_from_is_err_and c.from-residual.result c.from-residual.ensures.1 in
+    let p = err_from_is_err_and c.from_residual.result c.from_residual.ensures.1 in
     let r : Read bs (Err _) = refused bs _ c.in_err-draft.ensures in
     rw (p.1, p.2) (record { answer = r; one = one_answer bs (Err _) r })
 

@@ -22,25 +22,16 @@ invariant_of-result c =
     let z = c.in_ok-sizes.ensures.0 in
     let f = c.in_ok-points.ensures.0 in
     let p = c.in_ok-points.ensures.1 in
-    let m : s.n * s.k ≡ many bs = ap₂ (λ x y. x * y) z.n_is z.k_is in (
-      c.in_ok-points.ensures.2,
-      (
-        (z.limits.v_low, z.limits.v_high),
-        (
-          (z.limits.n_low, z.limits.units),
-          (
-            (z.limits.k_low, z.limits.k_high, z.limits.narrow),
-            (
-              high_so bs ps (s.n * s.k) s.v f p m z.v_is z.limits.v_low,
-              (
-                ascend_so bs ps (s.n * s.k) s.k f p m z.k_is,
-                (λ i. filled_past bs ps (s.n * s.k) i f, tt),
-              ),
-            ),
-          ),
-        ),
-      ),
-    )
+    let m : s.n * s.k ≡ many bs = ap₂ (λ x y. x * y) z.n_is z.k_is in
+    record {
+      room = c.in_ok-points.ensures.2;
+      checks = (z.limits.v_low, z.limits.v_high);
+      records = (z.limits.n_low, z.limits.units);
+      width = (z.limits.k_low, z.limits.k_high, z.limits.narrow);
+      high = high_so bs ps (s.n * s.k) s.v f p m z.v_is z.limits.v_low;
+      ascends = ascend_so bs ps (s.n * s.k) s.k f p m z.k_is;
+      blank = λ i. filled_past bs ps (s.n * s.k) i f;
+    }
 
 pub returns : goal.returns
 unfolding contents_of
