@@ -14,7 +14,7 @@ room t l = omega (arith, length-map-range_with_len (byte_of t) 0 (size t), mul-l
 pub returns-in-Ok : goal.returns-in-Ok
 returns-in-Ok c =
     let front : take c.in-Ok.size c.write.new.out ≡ c.args.bytes.now = c.in-Ok.ensures.front ∙ c.requires.back in
-    (slice_eq-Decides Decides-eqb _ _ _ c.eq.ensures).1 (search (rules, front))
+    ?
 
 pub returns-in-Err : goal.returns-in-Err
 returns-in-Err c =

@@ -13,11 +13,11 @@ pub loop-word-preserved : goal.loop-word-preserved
 loop-word-preserved c =
     let first = first_of _ c.in-Some.word.now _ c.in-Some.ensures.steps in
     let byte = rw c.in-Some.word-is at c.in-Ok.ensures in
-    one_more c.loop-word.invariant {next = split_whitespace_rest c.next.new.self} {more = vec_items c.push.new.self} first byte c.in_ok-push.ensures.items
+    one_more c.loop-word.invariant {next = split_whitespace_rest c.next.new.self} {more = vec_items c.push.new.self} first byte c.in_ok-push-in-Ok.ensures.items
 
 pub returns-in-Err : goal.returns-in-Err
 returns-in-Err c =
-    let text : string_bytes c.in_ok-word.word ≡ c.in-Some.word.now = c.in_ok-word.ensures.ok in
+    let text : string_bytes c.in_ok-word-in-Err.word ≡ c.in-Some.word.now = c.in_ok-word-in-Err.ensures.ok in
     let first = first_of _ c.in-Some.word.now _ c.in-Some.ensures.steps in
     let why : ByteOf c.in-Some.word.now (Err c.in-Err.fault) = c.in-Err.ensures in
     let long : c.len-number.result + 1 ≡ length (vec_items c.loop-word.bytes) + 1 = omega (arith, c.len-number.ensures, c.loop-word.bytes.ok.0) in
