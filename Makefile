@@ -2,14 +2,13 @@
 .PHONY: run test misuse fmt
 
 run:
-	rt check planner
-	target/bin/planner < crates/planner/stdin
+	cd crates/planner && rt run < stdin
 
-test: misuse
-	rt ci
+test:
+	tests/gate
 
 misuse:
 	tests/misuse/run
 
 fmt:
-	rt fmt
+	for crate in crates/*; do (cd "$$crate" && rt fmt) || exit 1; done
