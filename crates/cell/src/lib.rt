@@ -1,4 +1,6 @@
 //! Cells, what places hold, and their sums over sets of places.
+#![tactic(auto)]
+
 mod byte;
 mod kind;
 mod passage;

@@ -1,5 +1,7 @@
 //! Holds the reader and the writer of tables to a second, plain implementation, on tables, on tables with damage, and
 //! at the limits of the sizes.
+#![tactic(auto)]
+
 mod count;
 mod damage;
 mod edges;

@@ -1,5 +1,7 @@
 //! What a planner does before a rack is ordered: reads unit tables from standard input, one a line, as decimal bytes
 //! with spaces between them, and says of each what it is, or what is wrong with it and how to mend it.
+#![tactic(auto)]
+
 mod advice;
 mod clash;
 mod listing;

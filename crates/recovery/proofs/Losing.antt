@@ -1,14 +1,12 @@
 -- Going through the missing units for the record units that are lost: one turn of the loop.
-use Rattle.std.proofs.Common.{◌≡◌, ℕ, ◌<◌, ◌≤◌, Bool, true, false, not, ◌&&◌, ◌||◌, eqb, ltb, sym, refl, ap, ◌∙◌, subst, ⊎_elim, arith}
-use mathlib.Core.Bool.{and-true}
-use Rattle.std.proofs.lemmas.Bool.{cases_eq, cases_Bool, both_ways, or_cases, or_parts, or_right, and_parts, and_from, not_from_false, eqb-true, eq-eqb, ne_eqb, lt-ltb}
+use Rattle.std.proofs.Common.{◌≡◌, ℕ, ◌<◌, true, false, ◌&&◌, ◌||◌, eqb, ltb, sym, refl, ◌∙◌, subst, ⊎_elim, arith}
+use Rattle.std.proofs.lemmas.Bool.{cases_eq, cases_Bool, both_ways, or_cases, or_parts, or_right, and_parts, and_from, not_from_false, eqb-true, eq-eqb, lt-ltb}
 use Rattle.sets.specs.declared.set.SmallSet.{SmallSet}
 use Rattle.sets.specs.Members.{has}
 use Rattle.sets.specs.Steps.{Least, Without}
 use Rattle.sets.proofs.Steps.{out_before}
 use Rattle.cell.specs.Kinds.{Laws}
 use Rattle.table.specs.Contents.{Contents}
-use Rattle.recovery.specs.Groups.{units}
 use Rattle.recovery.specs.Answers.{but, HasLoss, HasRecipe, LostRecords}
 use Rattle.recovery.proofs.Solving.{itself}
 

@@ -1,5 +1,5 @@
 -- Making the groups of a table: one turn of each loop.
-use Rattle.std.proofs.Common.{◌≡◌, ℕ, ◌+◌, ◌-◌, ◌<◌, ◌≤◌, Bool, true, false, not, ◌&&◌, ◌||◌, eqb, ltb, List, length, take, set, replicate, sym, refl, ap, ◌∙◌, subst, ap₂, ⊎_elim, arith, length-set, length-take, get_or-take}
+use Rattle.std.proofs.Common.{◌≡◌, ℕ, ◌+◌, ◌-◌, ◌<◌, ◌≤◌, true, false, ◌&&◌, ◌||◌, eqb, ltb, List, length, take, set, replicate, sym, ap, ◌∙◌, subst, ap₂, ⊎_elim, arith, length-set, length-take, get_or-take}
 use mathlib.Core.Bool.{and-false, or-true, or-false}
 use lib.ListN.{length-replicate}
 use Rattle.std.proofs.lemmas.Bool.{cases_eq, cases_lt, cases_Bool, le-ltb, lt-ltb, eqb-true, eqb-false}
@@ -9,7 +9,7 @@ use Rattle.table.specs.Contents.{Contents, has_point}
 use Rattle.table.specs.Held.{contents}
 use Rattle.table.proofs.Validity.{valid_table}
 use Rattle.recovery.specs.declared.layout.Layout.{Layout}
-use Rattle.recovery.specs.Groups.{units, in_group, at, Grouped}
+use Rattle.recovery.specs.Groups.{in_group, at, Grouped}
 use Rattle.recovery.proofs.Elimination.{none_past, at_same, at_other, blank}
 use Rattle.recovery.proofs.Books.{group_is, no_group}
 

@@ -1,8 +1,6 @@
 -- What a recipe and a loss set mean for books, and that there are never both.
-use Rattle.std.proofs.Common.{◌≡◌, ℕ, ◌<◌, Bool, true, false, cond, sym, refl, ap, ◌∙◌, subst, ap₂, ⊎_elim}
+use Rattle.std.proofs.Common.{◌≡◌, ℕ, ◌<◌, Bool, true, cond, sym, ap, ◌∙◌, ⊎_elim}
 use Rattle.std.proofs.lemmas.Bool.{cases_Bool, both_ways}
-use Rattle.sets.specs.Members.{odd}
-use Rattle.sets.specs.Sums.{total}
 use Rattle.sets.proofs.Sums.{unit_r}
 use Rattle.cell.specs.Kinds.{Laws}
 use Rattle.cell.proofs.Laws.{adds, total_same, total_flat}

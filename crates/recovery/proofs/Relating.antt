@@ -1,6 +1,6 @@
 -- The rows after the pivots are relations, and enough of them: cells of good units over which they sum to zero can be
 -- filled up to what all units hold by a book.
-use Rattle.std.proofs.Common.{◌≡◌, ℕ, zero, suc, ◌+◌, ◌<◌, ◌≤◌, Bool, true, false, cond, not, eqb, List, length, set, replicate, sym, refl, ap, ◌∙◌, subst, ap₂, ⊎_elim, arith, length-set}
+use Rattle.std.proofs.Common.{◌≡◌, ℕ, zero, suc, ◌+◌, ◌<◌, ◌≤◌, Bool, true, false, cond, eqb, List, length, set, replicate, sym, refl, ap, ◌∙◌, subst, ap₂, ⊎_elim, arith, length-set}
 use lib.ListN.{length-replicate}
 use Rattle.std.proofs.lemmas.Bool.{cases_eq, cases_lt, both_ways, not-true, not_from_false, ne_eqb}
 use Rattle.sets.specs.declared.set.SmallSet.{SmallSet}
@@ -11,9 +11,9 @@ use Rattle.cell.specs.Kinds.{Laws}
 use Rattle.cell.proofs.Laws.{adds, total_none, total_same, total_alike, total_linear}
 use Rattle.table.specs.Contents.{Contents}
 use Rattle.recovery.specs.Groups.{units, no_units, at, Grouped}
-use Rattle.recovery.specs.Books.{Book, holds, held, MatchesRow}
-use Rattle.recovery.specs.Recipes.{Relation, SumsToZero, Relations}
-use Rattle.recovery.specs.Rows.{Leads, Pivots, Echelon}
+use Rattle.recovery.specs.Books.{held}
+use Rattle.recovery.specs.Recipes.{Relation, Relations}
+use Rattle.recovery.specs.Rows.{Pivots, Echelon}
 use Rattle.recovery.specs.Answers.{but}
 use Rattle.recovery.proofs.Elimination.{none_past, at_same, at_other, blank}
 use Rattle.recovery.proofs.Books.{is_book, groups_code}

@@ -1,5 +1,5 @@
 -- Elimination over sets of units, the rows of a matrix over GF(2). Nobody above the solver needs these.
-use Rattle.std.specs.Prelude.{◌≡◌, ℕ, ◌<◌, ◌≤◌, Bool, true, false, cond, ◌&&◌, eqb, ◌⊎◌, List, length, Some, None, Option}
+use Rattle.std.specs.Prelude.{◌≡◌, ℕ, ◌<◌, ◌≤◌, true, false, ◌&&◌, ◌⊎◌, List, length, Some, None, Option}
 use Rattle.std.specs.Bool.{xor}
 use Rattle.sets.specs.declared.set.SmallSet.{SmallSet}
 use Rattle.sets.specs.Members.{has}

@@ -1,4 +1,6 @@
 //! Recipes and loss sets: which missing unit can be read back, from which good units, and where not, why not.
+#![tactic(auto)]
+
 mod layout;
 mod rows;
 mod solution;

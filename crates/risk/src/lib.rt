@@ -1,4 +1,6 @@
 //! What one missing unit more than the figure does to a table, so that two tables can be compared.
+#![tactic(auto)]
+
 ghost use Rattle.std.specs.Prelude.{◌≡◌, ◌≤◌, Decides};
 ghost use Rattle.table.specs.Held.{contents};
 ghost use Rattle.risk.specs.Choose.{choose};

@@ -7,7 +7,6 @@ ghost use Rattle.sets.specs.Steps.{Empty, Least};
 ghost use Rattle.sets.specs.Sums.{count};
 ghost use Rattle.std.specs.Cmp.Rules.{comparing};
 ghost use Rattle.std.proofs.Common.{rules};
-ghost use Rattle.std.specs.Cmp as Keys;
 
 use crate::members::Members;
 
@@ -121,7 +120,7 @@ impl SmallSet {
 impl PartialEq for SmallSet {
     ghost eq = { on (λ v. v.bits) nat_eq };
 
-    ghost laws = { Keys.partial_equiv_from_equiv (Prim.search (comparing, rules)) };
+    ghost laws = { Prim.search (comparing, rules) };
 
     fn eq(&self, other: &SmallSet) -> bool
         ensures value { result ≡ nat_eq self.now.bits other.now.bits }

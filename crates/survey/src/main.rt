@@ -1,6 +1,8 @@
 //! Reads tables from standard input, one a line: a name, a colon and the bytes in decimal. For each it asks the layout,
 //! with every set of up to five missing units, how every unit is read back, and holds the answers to what the table's
 //! blocks say. Counts the records that cannot be read back.
+#![tactic(auto)]
+
 mod choice;
 mod rank;
 mod tally;

@@ -1,5 +1,5 @@
 -- A formed contents without clash is valid.
-use Rattle.std.proofs.Common.{◌≡◌, ℕ, zero, suc, ◌+◌, ◌-◌, ◌*◌, ◌%◌, ◌<◌, ◌≤◌, true, false, ◌&&◌, ◌||◌, leb, ◌⊎◌, is_some, sym, refl, ap, subst, inl, inr, ⊎_elim, arith}
+use Rattle.std.proofs.Common.{◌≡◌, ℕ, zero, suc, ◌+◌, ◌*◌, ◌%◌, ◌<◌, ◌≤◌, true, false, ◌&&◌, ◌||◌, leb, is_some, sym, refl, ap, subst, inl, inr, ⊎_elim, arith}
 use mathlib.Core.Bool.{and_comm}
 use Rattle.std.proofs.lemmas.Bool.{cases_lt, cases_order, leb-true, lt-leb, and_parts, or_cases, both_ways}
 use Rattle.sets.specs.Sums.{count}

@@ -1,5 +1,5 @@
 -- Worked cases of reading: the small table D, and what becomes of it when bytes change.
-use Rattle.std.specs.Prelude.{◌≡◌, ℕ, List, [], ◌∷◌, ◌++◌, take, set, Some, None, slice_set}
+use Rattle.std.specs.Prelude.{◌≡◌, ℕ, List, [], ◌∷◌, ◌++◌, take, Some, None, slice_set}
 use Rattle.table.specs.declared.fault.TableFault.TheVariants.{Short, Point, Tail, Pair, Cover}
 use Rattle.table.specs.Contents.{load}
 use Rattle.table.specs.Place.{contents_of}

@@ -1,4 +1,6 @@
 //! The unit table of a rack: which check units stand behind which record units, read from bytes and written back.
+#![tactic(auto)]
+
 mod fault;
 mod grade;
 mod table;

@@ -1,4 +1,4 @@
-use Rattle.std.proofs.Common.{◌≡◌, ◌+◌, ◌-◌, sym, subst, arith}
+use Rattle.std.proofs.Common.{◌≡◌, ◌-◌, sym, subst, arith}
 use Rattle.recovery.specs.Groups.{at}
 use Rattle.recovery.specs.Rows.{Balanced}
 use Rattle.recovery.proofs.Balancing.{balance_starts, balance_stays, balance_adds, least_leads, shares_one}

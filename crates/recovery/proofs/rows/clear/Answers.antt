@@ -1,5 +1,4 @@
 use Rattle.std.proofs.Common.{sym, subst, arith}
-use lib.Seq.{set-get_or}
 use Rattle.recovery.proofs.Elimination.{Clearing, clearing_starts, clearing_keeps, clearing_adds, clearing_ends}
 use Rattle.recovery.proofs.rows.clear.Goals as goal
 use Rattle.recovery.proofs.rows.clear.Goals.{then-contains, else-contains}

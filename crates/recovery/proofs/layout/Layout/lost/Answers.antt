@@ -1,4 +1,4 @@
-use Rattle.std.proofs.Common.{◌≡◌, ◌<◌, sym, refl, ap, ◌∙◌, subst, arith}
+use Rattle.std.proofs.Common.{◌≡◌, sym, refl, ap, ◌∙◌, subst, arith}
 use Rattle.sets.specs.declared.set.SmallSet.{SmallSet}
 use Rattle.table.specs.Held.{contents}
 use Rattle.table.proofs.Validity.{valid_table}

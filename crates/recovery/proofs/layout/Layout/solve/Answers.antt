@@ -1,4 +1,4 @@
-use Rattle.std.proofs.Common.{◌≡◌, ℕ, ◌-◌, ◌<◌, true, false, not, ◌&&◌, eqb, ltb, take, sym, refl, ap, ◌∙◌, arith}
+use Rattle.std.proofs.Common.{◌≡◌, ℕ, ◌-◌, ◌<◌, true, not, ◌&&◌, eqb, ltb, take, sym, refl, ap, ◌∙◌, arith}
 use mathlib.Core.Bool.{and-true}
 use Rattle.std.proofs.lemmas.Bool.{ltb-true, lt-ltb, and_parts, and_right, not_from_true, not_from_false, eq-eqb, eqb-true}
 use Rattle.sets.specs.Members.{has}
