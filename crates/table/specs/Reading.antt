@@ -1,5 +1,5 @@
 -- The one answer to every string of bytes.
-use Rattle.std.specs.Prelude.{ℕ, ◌+◌, Bool, cond, ◌&&◌, ◌||◌, leb, List, length, Some, None, Option, ◌==◌, nat_le, nat_lt}
+use Rattle.std.specs.Prelude.{ℕ, ◌+◌, Bool, cond, ◌&&◌, ◌||◌, List, length, Some, None, Option, ◌==◌, nat_le, nat_lt}
 use Rattle.table.specs.declared.fault.TableFault.{TableFault}
 use Rattle.table.specs.declared.fault.TableFault.TheVariants.{Short, Size, Point, Tail, Pair, Cover}
 use Rattle.table.specs.Ranges.{every, some, first}
@@ -8,7 +8,7 @@ use Rattle.table.specs.Place.{many, full, fits, contents_of}
 
 -- block d shares at most one point with each block before it
 unfoldable pub apart : Contents → ℕ → Bool
-apart t d = every (λ e. leb (shared t d e) 1) d
+apart t d = every (λ e. nat_le (shared t d e) 1) d
 
 -- p and q lie together in a block
 unfoldable pub together : Contents → ℕ → ℕ → Bool
