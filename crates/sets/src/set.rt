@@ -1,7 +1,6 @@
-ghost use Rattle.std.specs.Prelude.{◌≡◌, ℕ, ◌≤◌, false, not, ◌&&◌, ◌||◌, Decides, MatchOption, ◌==◌, nat_eq, nat_lt};
+ghost use Rattle.std.specs.Prelude.{◌≡◌, ℕ, ◌≤◌, false, not, ◌&&◌, ◌||◌, Decides, MatchOption, ◌==◌, nat_lt};
 ghost use Rattle.std.specs.Bool.{xor};
-ghost use Rattle.std.specs.Ordering.{on};
-ghost use Rattle.sets.specs.Members.{has};
+ghost use Rattle.sets.specs.Members.{has, same_word};
 ghost use Rattle.sets.specs.Parity.{oddly};
 ghost use Rattle.sets.specs.Steps.{Empty, Least};
 ghost use Rattle.sets.specs.Sums.{count};
@@ -118,12 +117,12 @@ impl SmallSet {
 
 // Two sets are equal exactly if they have the same members.
 impl PartialEq for SmallSet {
-    ghost eq = { on (λ v. v.bits) nat_eq };
+    ghost eq = { same_word };
 
     ghost laws = { Prim.search (comparing, rules) };
 
     fn eq(&self, other: &SmallSet) -> bool
-        ensures value { result ≡ nat_eq self.now.bits other.now.bits }
+        ensures value { result ≡ same_word self.now other.now }
         ensures members { Decides result ((i : ℕ) → has self.now i ≡ has other.now i) }
     {
         self.bits == other.bits
