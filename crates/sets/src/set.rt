@@ -1,4 +1,4 @@
-ghost use Rattle.std.specs.Prelude.{◌≡◌, ℕ, ◌≤◌, false, not, ◌&&◌, ◌||◌, Decides, MatchOption, ◌==◌, nat_lt};
+ghost use Rattle.std.specs.Prelude.{◌≡◌, ℕ, ◌<◌, ◌≤◌, true, false, not, ◌&&◌, ◌||◌, Decides, MatchOption, ◌==◌, nat_lt};
 ghost use Rattle.std.specs.Bool.{xor};
 ghost use Rattle.sets.specs.Members.{has, same_word};
 ghost use Rattle.sets.specs.Parity.{oddly};
@@ -36,6 +36,21 @@ impl SmallSet {
         } else {
             SmallSet::empty()
         }
+    }
+
+    /// The set of the numbers from 0 to 63 that pass `test`.
+    pub fn from_fn<F: Fn(usize) -> bool>(test: F) -> SmallSet
+        requires { F.IsAlwaysCallable test }
+        ensures passing { (i : ℕ) → i < 64 → F.post test i (has result i) }
+        ensures past { (i : ℕ) → 64 ≤ i → has result i ≡ false }
+    {
+        let mut set = SmallSet::empty();
+        for number in 0..LIMIT {
+            if test(number) {
+                set = set.with(number);
+            }
+        }
+        set
     }
 
     /// Whether `number` is a member.
@@ -83,6 +98,27 @@ impl SmallSet {
         }
     }
 
+    /// The numbers that are in this set and not in the other.
+    pub fn difference(self, other: SmallSet) -> SmallSet
+        ensures { (i : ℕ) → has result i ≡ (has self i && not (has other i)) }
+    {
+        self.symmetric_difference(self.intersection(other))
+    }
+
+    /// Whether each member of this set is one of the other.
+    pub fn is_subset(self, other: SmallSet) -> bool
+        ensures { Decides result ((i : ℕ) → has self i ≡ true → has other i ≡ true) }
+    {
+        self.difference(other).is_empty()
+    }
+
+    /// Whether there is no member.
+    pub fn is_empty(self) -> bool
+        ensures { Decides result (Empty self) }
+    {
+        self == SmallSet::empty()
+    }
+
     /// How many members there are.
     pub fn len(self) -> usize
         ensures { result ≡ count 64 (has self) }
@@ -109,7 +145,7 @@ impl SmallSet {
 
     /// The members in ascending order.
     pub fn iter(self) -> Members
-        ensures { result.rest ≡ self }
+        ensures { result ≡ self }
     {
         Members { rest: self }
     }

@@ -33,3 +33,14 @@ fn sums_and_meets(rt: HostRuntime) {
     assert!(rt; a.meets_oddly(b) && !a.meets_oddly(c));
     assert_eq!(rt; a.without(2).with(2), a);
 }
+
+#[test]
+fn sets_by_a_test(rt: HostRuntime) {
+    let multiples = SmallSet::from_fn(|number| number % 21 == 0);
+    assert_eq!(rt; multiples, SmallSet::of(0).with(21).with(42).with(63));
+    assert_eq!(rt; SmallSet::from_fn(|number| number > 63), SmallSet::empty());
+    let few = multiples.difference(SmallSet::of(21).with(22));
+    assert_eq!(rt; few, SmallSet::of(0).with(42).with(63));
+    assert!(rt; few.is_subset(multiples) && !multiples.is_subset(few));
+    assert!(rt; few.difference(multiples).is_empty() && !few.is_empty());
+}

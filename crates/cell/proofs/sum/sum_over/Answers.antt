@@ -41,30 +41,30 @@ module _ {C : Type 0} (o : C) (plus : C → C → C) (l : Laws o plus) (xs : Lis
 pub loop-place-init : goal.loop-place-init
 loop-place-init g c =
     let k = g.C.Cell in
-    begun k.zero k.sum k.laws c.args.cells.now c.zero_cell-sum.result c.into_iter-place-iterator.result.rest c.zero_cell-sum.ensures
+    begun k.zero k.sum k.laws c.args.cells.now c.zero_cell-sum.result c.into_iter-place-iterator.result c.zero_cell-sum.ensures
 
 pub loop-place-preserved-in-Some-get : goal.loop-place-preserved-in-Some-get
 loop-place-preserved-in-Some-get g c =
     let k = g.C.Cell in
-    let rest = c.loop-place.place-iterator.rest in
+    let rest = c.loop-place.place-iterator in
     let step = c.in-Some.ensures.steps in
     let read = c.in-Some-get.ensures.lookup.3.1 k.zero in
-    taken k.zero k.sum k.laws c.args.cells.now c.loop-place.sum rest c.next.new.self.rest _ _ _ step.0 step.1 read c.plus-sum.ensures ∙ c.loop-place.invariant
+    taken k.zero k.sum k.laws c.args.cells.now c.loop-place.sum rest c.next.new.self _ _ _ step.0 step.1 read c.plus-sum.ensures ∙ c.loop-place.invariant
 
 pub loop-place-preserved : goal.loop-place-preserved
 loop-place-preserved g c =
     let k = g.C.Cell in
-    let rest = c.loop-place.place-iterator.rest in
+    let rest = c.loop-place.place-iterator in
     let step = c.in-Some.ensures.steps in
     let past = c.in_default.ensures.lookup.3 in
-    passed k.zero k.sum k.laws c.args.cells.now c.loop-place.sum rest c.next.new.self.rest _ step.0 step.1 past ∙ c.loop-place.invariant
+    passed k.zero k.sum k.laws c.args.cells.now c.loop-place.sum rest c.next.new.self _ step.0 step.1 past ∙ c.loop-place.invariant
 
 pub returns : goal.returns
 returns g c =
     let k = g.C.Cell in
     let xs = c.args.cells.now in
-    let rest = c.loop-place.place-iterator.rest in
+    let rest = c.loop-place.place-iterator in
     let none = c.in-None.ensures.steps.0 in
-    let all : c.into_iter-place-iterator.result.rest ≡ c.args.places = ap (λ m. m.rest) c.into_iter-place-iterator.ensures.into_iter_gives ∙ c.iter-place-items.ensures in
+    let all : c.into_iter-place-iterator.result ≡ c.args.places = c.into_iter-place-iterator.ensures.into_iter_gives ∙ c.iter-place-items.ensures in
     let value = ended k.zero k.sum k.laws xs c.loop-place.sum rest _ none c.loop-place.invariant ∙ ap (over k.zero k.sum xs) all in
     record { value = value; laws = sum_laws k.zero k.sum k.laws }

@@ -9,4 +9,4 @@ abbrev pub invariant-loop-place : goal.invariant-loop-place
 invariant-loop-place g l =
     let k = g.C.Cell in
     let over : SmallSet → g.row.C.Denot = λ s. total k.zero k.sum 64 (has s) (λ i. get_or l.cells i k.zero) in
-    k.sum l.sum (over l.place-iterator.rest) ≡ over l.initial.place-iterator.rest
+    k.sum l.sum (over l.place-iterator) ≡ over l.initial.place-iterator

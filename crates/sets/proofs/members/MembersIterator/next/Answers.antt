@@ -1,4 +1,5 @@
 use Rattle.std.proofs.Common.{◌≡◌, ℕ, suc, ◌<◌, not, ◌&&◌, eqb, sym, ap, ◌∙◌, arith, rules}
+use Rattle.sets.specs.declared.set.SmallSet.{SmallSet}
 use Rattle.sets.specs.Members.{has}
 use Rattle.sets.specs.Sums.{count}
 use Rattle.sets.proofs.Sums.{count_without, count_same}
@@ -10,10 +11,11 @@ less m n e = omega arith
 
 pub returns-clause-goes : goal.returns-clause-goes
 returns-clause-goes c =
-    let s = c.args.self.now.rest in
-    let t = c.without-self.result in
+    let left : SmallSet → ℕ = λ s. count 64 (has s) in
+    let s = c.self.inside.rest in
+    let t = c.without-self-inside.result in
     let i = c.in_ok-least.least in
     let l = c.in_ok-least.ensures in
-    let e : count 64 (has s) ≡ suc (count 64 (has t)) =
-    count_without 64 i (has s) l.small l.member ∙ sym (ap suc (count_same 64 (has t) (λ j. has s j && not (eqb j i)) (λ j _. c.without-self.ensures j))) in
-    firm (tt, tt, less (count 64 (has s)) (count 64 (has t)) e) (λ h. search rules)
+    let e : left s ≡ suc (left t) =
+    count_without 64 i (has s) l.small l.member ∙ sym (ap suc (count_same 64 (has t) (λ j. has s j && not (eqb j i)) (λ j _. c.without-self-inside.ensures j))) in
+    firm (tt, tt, less (left c.args.self.now) (left t) (ap left (sym c.self.view_is) ∙ e)) (λ h. search rules)
