@@ -119,6 +119,21 @@ impl SmallSet {
         self == SmallSet::empty()
     }
 
+    /// The members that pass `test`.
+    pub fn filter<F: Fn(usize) -> bool>(self, test: F) -> SmallSet
+        requires { F.IsAlwaysCallable test }
+        ensures passing { (i : ℕ) → has self i ≡ true → F.post test i (has result i) }
+        ensures others { (i : ℕ) → has self i ≡ false → has result i ≡ false }
+    {
+        let mut kept = SmallSet::empty();
+        for number in self.iter() {
+            if test(number) {
+                kept = kept.with(number);
+            }
+        }
+        kept
+    }
+
     /// How many members there are.
     pub fn len(self) -> usize
         ensures { result ≡ count 64 (has self) }

@@ -39,6 +39,10 @@ fn sets_by_a_test(rt: HostRuntime) {
     let multiples = SmallSet::from_fn(|number| number % 21 == 0);
     assert_eq!(rt; multiples, SmallSet::of(0).with(21).with(42).with(63));
     assert_eq!(rt; SmallSet::from_fn(|number| number > 63), SmallSet::empty());
+    assert_eq!(rt;
+        multiples.filter(|number| number > 21),
+        SmallSet::of(42).with(63)
+    );
     let few = multiples.difference(SmallSet::of(21).with(22));
     assert_eq!(rt; few, SmallSet::of(0).with(42).with(63));
     assert!(rt; few.is_subset(multiples) && !multiples.is_subset(few));
