@@ -1,7 +1,8 @@
 -- Back substitution: one turn of the loop.
-use Rattle.std.proofs.Common.{◌≡◌, ℕ, ◌+◌, ◌<◌, true, false, ◌&&◌, ◌||◌, eqb, ltb, List, sym, refl, ap, ◌∙◌, subst, inl, inr, ⊎_elim, arith}
+use Rattle.std.proofs.Common.{◌≡◌, ℕ, ◌+◌, ◌<◌, ◌≤◌, true, false, ◌&&◌, ◌||◌, eqb, ltb, List, [], ◌∷◌, ◌++◌, length, take, sym, refl, ap, ◌∙◌, subst, inl, inr, ⊎_elim, arith}
 use mathlib.Core.Bool.{xor, and-true}
-use Rattle.std.proofs.lemmas.Bool.{cases_eq, cases_Bool, both_ways, and_parts, and_from, or_cases, or_left, eqb-true, eq-eqb, lt-ltb}
+use Rattle.std.proofs.lemmas.Bool.{cases_eq, cases_lt, cases_Bool, both_ways, and_parts, and_from, or_cases, or_left, eqb-true, eq-eqb, lt-ltb}
+use Rattle.std.proofs.lemmas.List.{take_all, take_at, take-take, length-take-le, get_or-take, get_or_at, length-append}
 use Rattle.sets.specs.declared.set.SmallSet.{SmallSet}
 use Rattle.sets.specs.Members.{has}
 use Rattle.sets.specs.Parity.{oddly}
@@ -9,6 +10,7 @@ use Rattle.sets.specs.Steps.{Least}
 use Rattle.sets.proofs.Bits.{parity_with, xor_none, xor_self}
 use Rattle.recovery.specs.Groups.{at}
 use Rattle.recovery.specs.Rows.{Leads, Pivots, Balanced}
+use Rattle.recovery.proofs.Elimination.{none_past}
 
 module _ (asked : SmallSet) (rows : List SmallSet) (rank unit : ℕ) where
   pub balance_starts : (s : SmallSet) → unit < 64 → ((i : ℕ) → has s i ≡ (eqb i unit && ltb i 64)) → Balanced asked rows rank unit rank s
@@ -69,3 +71,70 @@ least_leads asked row both u is least =
 -- a pivot shares a unit with those asked for
 pub shares_one : (asked row both : SmallSet) (u : ℕ) → ((i : ℕ) → has both i ≡ (has row i && has asked i)) → Leads asked row u → ((i : ℕ) → has both i ≡ false) → ⊥
 shares_one asked row both u is lead none = both_ways (has both u) (none u) (is u ∙ and_from (has row u) (has asked u) lead.in_row lead.among)
+
+-- ---- from the last pivot to the first: the pivots left, a front of all
+
+pub record Left (pivots left : List SmallSet) : Type 0 where
+  pub few : length left ≤ length pivots
+  pub front : left ≡ take (length left) pivots
+
+pub record Turn (pivots left : List SmallSet) (pivot : SmallSet) : Type 0 where
+  pub inside : length left < length pivots
+  pub here : at pivots (length left) ≡ pivot
+  pub then : Left pivots left
+
+pub all_left : (pivots left : List SmallSet) → left ≡ pivots → Left pivots left
+all_left pivots left e = record { few = omega (arith, ap length e); front = e ∙ sym (take_all (length left) pivots (omega (arith, ap length e))) }
+
+-- the last of them comes
+pub turn : (pivots left rest : List SmallSet) (pivot : SmallSet) → Left pivots left → left ≡ rest ++ pivot ∷ [] → (length left ≡ length rest + 1) × Turn pivots rest pivot
+turn pivots left rest pivot h e = (
+  long,
+  record {
+    inside = omega (arith, long, h.few);
+    here = sym (get_or-take (length left) pivots (length rest) _ (omega (arith, long))) ∙ ap (λ xs. at xs (length rest)) (sym h.front ∙ e) ∙ get_or_at rest pivot [] _ (length rest) refl;
+    then = record {
+      few = omega (arith, long, h.few);
+      front = sym (take_at rest (pivot ∷ []) (length rest) refl) ∙ ap (take (length rest)) (sym e ∙ h.front) ∙ take-take (length rest) (length left) pivots (omega (arith, long));
+    };
+  },
+)
+  where
+    long : length left ≡ length rest + 1
+    long = ap length e ∙ length-append rest (pivot ∷ [])
+
+-- ---- the pivots alone, a front of the rows
+
+module _ (asked : SmallSet) (rows : List SmallSet) (rank : ℕ) (pivots : Pivots asked rows rank) where
+  front : List SmallSet
+  front = take rank rows
+
+  long : length front ≡ rank
+  unfolding front
+  long = length-take-le rank rows pivots.ranked
+
+  same : (k : ℕ) → k < rank → at front k ≡ at rows k
+  unfolding front
+  same k l = get_or-take rank rows k _ l
+
+  leads_in : (k : ℕ) → k < rank → (u : ℕ) → Leads asked (at front k) u → Leads asked (at rows k) u
+  leads_in k l u = subst (λ (s : SmallSet). Leads asked s u) (same k l)
+
+  pub front_pivots : Pivots asked (take rank rows) (length (take rank rows))
+  unfolding front
+  front_pivots = record {
+    ranked = omega arith;
+    leads = λ k l. let lead = pivots.leads k (omega (arith, long)) in (lead.0, subst (λ (s : SmallSet). Leads asked s lead.0) (sym (same k (omega (arith, long)))) lead.1);
+    upper = λ i k u l m lead. ⊎_elim
+        (λ lk. ap (λ (s : SmallSet). has s u) (same k lk) ∙ pivots.upper i k u l (omega (arith, long)) (leads_in i (omega (arith, long)) u lead))
+        (λ past. none_past front k u (omega (arith, long)))
+        (cases_lt k rank);
+  }
+
+  pub balanced_rows : (unit : ℕ) (s : SmallSet) → Balanced asked (take rank rows) (length (take rank rows)) unit 0 s → Balanced asked rows rank unit 0 s
+  unfolding front
+  balanced_rows unit s h = record {
+    has_unit = h.has_unit;
+    leading = λ u e. ⊎_elim inl (λ w. inr (w.0, w.1, omega (arith, w.2, long), leads_in w.0 (omega (arith, w.2, long)) u w.3)) (h.leading u e);
+    even = λ k l m. ap (oddly s) (sym (same k m)) ∙ h.even k l (omega (arith, long));
+  }

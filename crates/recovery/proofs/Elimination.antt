@@ -1,8 +1,9 @@
 -- Lists of sets, and one turn of each loop of the elimination.
-use Rattle.std.proofs.Common.{◌≡◌, ℕ, ◌+◌, ◌<◌, ◌≤◌, Bool, true, false, cond, ◌&&◌, List, length, set, replicate, sym, refl, ap, ◌∙◌, subst, ap₂, inl, inr, ⊎_elim, arith, length-set, get_or-set_other, get_or-set_same}
+use Rattle.std.proofs.Common.{◌≡◌, ℕ, ◌+◌, ◌-◌, ◌<◌, ◌≤◌, Bool, true, false, cond, ◌&&◌, List, length, take, drop, set, replicate, sym, refl, ap, ◌∙◌, subst, ap₂, inl, inr, ⊎_elim, arith, rules, Option, MatchOption, None, Some, length-set, get_or-set_other, get_or-set_same}
 use mathlib.Core.Bool.{xor, and-true, and-false}
 use lib.ListN.{length-replicate, get_or-replicate}
-use Rattle.std.proofs.lemmas.List.{get_or_past}
+use borrow.Rule.Slice.PartMut.{put_mid}
+use Rattle.std.proofs.lemmas.List.{get_or_past, places}
 use Rattle.std.proofs.lemmas.Bool.{cases_eq, cases_lt, cases_order, both_ways}
 use Rattle.sets.specs.declared.set.SmallSet.{SmallSet}
 use Rattle.sets.specs.Members.{has}
@@ -14,12 +15,19 @@ use Rattle.sets.proofs.Sums.{unit_r}
 use Rattle.cell.specs.Kinds.{Laws}
 use Rattle.cell.proofs.Laws.{adds, total_none, total_alike, total_difference}
 use Rattle.recovery.specs.Groups.{no_units, at}
-use Rattle.recovery.specs.Rows.{Cleared, Code, Leads, Pivots, Echelon}
+use Rattle.recovery.specs.Rows.{RowWith, Cleared, Code, Leads, Pivots, Echelon}
 
 -- ---- what stands at a place
 
 pub none_past : (xs : List SmallSet) (k u : ℕ) → length xs ≤ k → has (at xs k) u ≡ false
 none_past xs k u h = ap (λ (s : SmallSet). has s u) (get_or_past xs k _ h) ∙ digit_none u
+
+-- the first place of a row that has u, among those from `from` on
+pub first_row : (rows : List SmallSet) (from u : ℕ) (r : Option ℕ)
+    → MatchOption r ((k : ℕ) → from ≤ k → k < length rows → has (at rows k) u ≡ false) (λ i. (from ≤ i) × (i < length rows) × (has (at rows i) u ≡ true) × ((k : ℕ) → from ≤ k → k < i → has (at rows k) u ≡ false))
+    → RowWith rows from u r
+first_row rows from u None none = λ k l. ⊎_elim (none k l) (none_past rows k u) (cases_lt k (length rows))
+first_row rows from u (Some i) found = (found.0, found.1, found.2)
 
 pub at_same : (xs : List SmallSet) (i : ℕ) (s : SmallSet) → i < length xs → at (set xs i s) i ≡ s
 at_same xs i s h = get_or-set_same xs i s _ h
@@ -33,66 +41,72 @@ blank m empty none k u = ⊎_elim
     (λ l. none_past (replicate m empty) k u (omega (arith, length-replicate m empty)))
     (cases_lt k m)
 
--- ---- clearing: the rows up to place m are done
+-- ---- clearing: the pivot was added to each of the first m rows that has the unit
 
-pub record Clearing (i u m : ℕ) (before rows : List SmallSet) : Type 0 where
-  pub kept : (k : ℕ) → k ≤ i → at rows k ≡ at before k
-  pub added : (k : ℕ) → i < k → k < m → (j : ℕ) → has (at rows k) j ≡ xor (has (at before k) j) (has (at before k) u && has (at before i) j)
+pub record Clearing (pivot : SmallSet) (u m : ℕ) (before rows : List SmallSet) : Type 0 where
+  pub added : (k : ℕ) → k < m → (j : ℕ) → has (at rows k) j ≡ xor (has (at before k) j) (has (at before k) u && has pivot j)
   pub rest : (k : ℕ) → m ≤ k → at rows k ≡ at before k
   pub wide : length rows ≡ length before
 
-module _ (i u : ℕ) (before : List SmallSet) where
-  pub clearing_starts : Clearing i u (i + 1) before before
-  clearing_starts = record { kept = λ k h. refl; added = λ k h l j. absurd (omega arith); rest = λ k h. refl; wide = refl }
+module _ (pivot : SmallSet) (u : ℕ) (before : List SmallSet) where
+  pub clearing_starts : Clearing pivot u 0 before before
+  clearing_starts = record { added = λ k l j. absurd (omega arith); rest = λ k h. refl; wide = refl }
 
-  module _ (m : ℕ) (rows : List SmallSet) (h : Clearing i u m before rows) (after : i < m) where
-    as_before : at rows m ≡ at before m
-    as_before = h.rest m (omega arith)
+  module _ (m : ℕ) (rows : List SmallSet) (h : Clearing pivot u m before rows) where
+    abbrev Done : SmallSet → Type 0
+    Done s = (j : ℕ) → has s j ≡ xor (has (at before m) j) (has (at before m) u && has pivot j)
+
+    one_more : (more : List SmallSet) → Done (at more m) → ((k : ℕ) → (k ≡ m → ⊥) → at more k ≡ at rows k) → length more ≡ length rows → Clearing pivot u (m + 1) before more
+    one_more more here others wide = record {
+      added = λ k b j. ⊎_elim
+          (λ e. subst (λ n. has (at more n) j ≡ xor (has (at before n) j) (has (at before n) u && has pivot j)) (sym e) (here j))
+          (λ ne. ap (λ (s : SmallSet). has s j) (others k ne) ∙ h.added k (omega arith) j)
+          (cases_eq k m);
+      rest = λ k l. others k (omega arith) ∙ h.rest k (omega arith);
+      wide = wide ∙ h.wide;
+    }
 
     -- a row that lacks the unit stays
-    pub clearing_keeps : has (at rows m) u ≡ false → Clearing i u (m + 1) before rows
-    clearing_keeps out = record {
-      kept = h.kept;
-      added = λ k l b j. ⊎_elim (λ e. subst (λ n. has (at rows n) j ≡ xor (has (at before n) j) (has (at before n) u && has (at before i) j)) (sym e) (here j)) (λ ne. h.added k l (omega arith) j) (cases_eq k m);
-      rest = λ k l. h.rest k (omega arith);
-      wide = h.wide;
-    }
+    pub clearing_keeps : has (at rows m) u ≡ false → Clearing pivot u (m + 1) before rows
+    clearing_keeps out = one_more rows here (λ k ne. refl) refl
       where
-        here : (j : ℕ) → has (at rows m) j ≡ xor (has (at before m) j) (has (at before m) u && has (at before i) j)
+        here : Done (at rows m)
         here j =
-            let lacks : has (at before m) u ≡ false = ap (λ (s : SmallSet). has s u) (sym as_before) ∙ out in
-            ap (λ (s : SmallSet). has s j) as_before ∙ sym (xor_none _) ∙ ap (λ b. xor (has (at before m) j) (b && has (at before i) j)) (sym lacks)
+            let same = h.rest m (omega arith) in
+            let lacks : has (at before m) u ≡ false = ap (λ (s : SmallSet). has s u) (sym same) ∙ out in
+            ap (λ (s : SmallSet). has s j) same ∙ sym (xor_none _) ∙ ap (λ b. xor (has (at before m) j) (b && has pivot j)) (sym lacks)
 
     -- to one that has it the pivot is added
-    pub clearing_adds : has (at rows m) u ≡ true → m < length rows → (s : SmallSet) → ((j : ℕ) → has s j ≡ xor (has (at rows m) j) (has (at before i) j)) → Clearing i u (m + 1) before (set rows m s)
-    clearing_adds in_it room s is = record {
-      kept = λ k l. at_other rows m k s (omega arith) ∙ h.kept k l;
-      added = λ k l b j. ⊎_elim
-          (λ e. subst (λ n. has (at (set rows m s) n) j ≡ xor (has (at before n) j) (has (at before n) u && has (at before i) j)) (sym e) (here j))
-          (λ ne. ap (λ (s : SmallSet). has s j) (at_other rows m k s ne) ∙ h.added k l (omega arith) j)
-          (cases_eq k m);
-      rest = λ k l. at_other rows m k s (omega arith) ∙ h.rest k (omega arith);
-      wide = length-set rows m s ∙ h.wide;
-    }
+    pub clearing_adds : has (at rows m) u ≡ true → m < length rows → (s : SmallSet) → ((j : ℕ) → has s j ≡ xor (has (at rows m) j) (has pivot j)) → Clearing pivot u (m + 1) before (set rows m s)
+    clearing_adds in_it room s is = one_more (set rows m s) here (λ k ne. at_other rows m k s ne) (length-set rows m s)
       where
-        here : (j : ℕ) → has (at (set rows m s) m) j ≡ xor (has (at before m) j) (has (at before m) u && has (at before i) j)
+        here : Done (at (set rows m s) m)
         here j =
-            let holds : has (at before m) u ≡ true = ap (λ (s : SmallSet). has s u) (sym as_before) ∙ in_it in
+            let same = h.rest m (omega arith) in
+            let holds : has (at before m) u ≡ true = ap (λ (s : SmallSet). has s u) (sym same) ∙ in_it in
             ap (λ (s : SmallSet). has s j) (at_same rows m s room) ∙ is j
-            ∙ ap (λ (s : SmallSet). xor (has s j) (has (at before i) j)) as_before
-            ∙ ap (λ b. xor (has (at before m) j) (b && has (at before i) j)) (sym holds)
+            ∙ ap (λ (s : SmallSet). xor (has s j) (has pivot j)) same
+            ∙ ap (λ b. xor (has (at before m) j) (b && has pivot j)) (sym holds)
 
-  pub clearing_ends : (m : ℕ) (rows : List SmallSet) → Clearing i u m before rows → length before ≤ m → Cleared i u before rows
-  clearing_ends m rows h end = record {
-    kept = h.kept;
-    added = λ k l j. ⊎_elim
-        (λ b. h.added k l b j)
-        (λ past.
-        ap (λ (s : SmallSet). has s j) (h.rest k past) ∙ sym (xor_none _)
-        ∙ ap (λ b. xor (has (at before k) j) (b && has (at before i) j)) (sym (none_past before k u (omega arith))))
-        (cases_lt k m);
-    wide = h.wide;
-  }
+-- the rows after the pivot at place i, cleared, are back in their place
+module _ (i u m : ℕ) (before rest : List SmallSet) (inside : i < length before) (h : Clearing (at before i) u m (take (length before - (i + 1)) (drop (i + 1) before)) rest) (end : length before - (i + 1) ≤ m) where
+  pub cleared : Cleared i u before (put_mid (i + 1) (length before - (i + 1)) before rest)
+  cleared = record { kept = λ k l. grind (arith, places); added = after; wide = search (rules, places) }
+    where
+      rows : List SmallSet
+      rows = put_mid (i + 1) (length before - (i + 1)) before rest
+
+      after : (k : ℕ) → i < k → (j : ℕ) → has (at rows k) j ≡ xor (has (at before k) j) (has (at before k) u && has (at before i) j)
+      after k l j = ⊎_elim
+          (λ lt.
+          let q = k - (i + 1) in
+          let here : at rows k ≡ at rest q = grind (arith, places) in
+          let there : at (take (length before - (i + 1)) (drop (i + 1) before)) q ≡ at before k = grind (arith, places) in
+          ap (λ (s : SmallSet). has s j) here ∙ h.added q (omega arith) j ∙ ap (λ (s : SmallSet). xor (has s j) (has s u && has (at before i) j)) there)
+          (λ past.
+          none_past rows k j (grind (arith, places))
+          ∙ sym (ap₂ (λ a b. xor a (b && has (at before i) j)) (none_past before k j past) (none_past before k u past) ∙ xor_none false))
+          (cases_lt k (length before))
 
 -- ---- elimination
 

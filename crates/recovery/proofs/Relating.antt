@@ -1,7 +1,8 @@
 -- The rows after the pivots are relations, and enough of them: cells of good units over which they sum to zero can be
 -- filled up to what all units hold by a book.
-use Rattle.std.proofs.Common.{◌≡◌, ℕ, zero, suc, ◌+◌, ◌<◌, ◌≤◌, Bool, true, false, cond, eqb, List, length, set, replicate, sym, refl, ap, ◌∙◌, subst, ap₂, ⊎_elim, arith, length-set}
+use Rattle.std.proofs.Common.{◌≡◌, ℕ, zero, suc, ◌-◌, ◌<◌, ◌≤◌, Bool, true, false, cond, eqb, List, ◌++◌, length, take, drop, replicate, sym, refl, ap, ◌∙◌, subst, ap₂, ⊎_elim, arith}
 use lib.ListN.{length-replicate}
+use Rattle.std.proofs.lemmas.List.{get_or_append_left, get_or-append_right, get_or-drop, length-append, length-take-le}
 use Rattle.std.proofs.lemmas.Bool.{cases_eq, cases_lt, both_ways, not-true, not_from_false, ne_eqb}
 use Rattle.sets.specs.declared.set.SmallSet.{SmallSet}
 use Rattle.sets.specs.Members.{has}
@@ -15,7 +16,7 @@ use Rattle.recovery.specs.Books.{held}
 use Rattle.recovery.specs.Recipes.{Relation, Relations}
 use Rattle.recovery.specs.Rows.{Pivots, Echelon}
 use Rattle.recovery.specs.Answers.{but}
-use Rattle.recovery.proofs.Elimination.{none_past, at_same, at_other, blank}
+use Rattle.recovery.proofs.Elimination.{none_past, blank}
 use Rattle.recovery.proofs.Books.{is_book, groups_code}
 use Rattle.recovery.proofs.Solving.{of_units, row_zero, row_clean}
 
@@ -99,36 +100,19 @@ module _ {C : Type 0} (o : C) (plus : C → C → C) (laws : Laws o plus) where
         filled : (f : ℕ → C) → Filled (units t) missing rows rank h.pivots (of_units o plus laws t before rows missing rank grouped h) rank f
         filled f = fill (units t) missing rows rank h.pivots (of_units o plus laws t before rows missing rank grouped h) rank (omega arith) f
 
--- the rows from place `from` up to place m stand in `sets`, and nothing else does
-pub record Taken (from m : ℕ) (rows sets : List SmallSet) : Type 0 where
-  pub early : (k : ℕ) → k < from → (i : ℕ) → has (at sets k) i ≡ false
-  pub here : (k : ℕ) → from ≤ k → k < m → (i : ℕ) → has (at sets k) i ≡ has (at rows k) i
-  pub past : (k : ℕ) → m ≤ k → (i : ℕ) → has (at sets k) i ≡ false
-  pub wide : length sets ≡ 40
+-- where the first rows are emptied, and what follows the rows was empty, the others are left
+pub emptied : (rows others blanks : List SmallSet) (rank : ℕ) (empty : SmallSet) → rank ≤ length rows → ((i : ℕ) → has empty i ≡ false) → ((k i : ℕ) → has (at others k) i ≡ false)
+    → blanks ≡ replicate (length (take rank (rows ++ others))) empty → Rest rank rows (blanks ++ drop rank (rows ++ others))
+emptied rows others blanks rank empty few none past is = record {
+  early = λ k l i. ap (λ (s : SmallSet). has s i) (get_or_append_left blanks _ _ k (omega (arith, long))) ∙ ap (λ xs. has (at xs k) i) is ∙ blank _ empty none k i;
+  late = λ k l i. ap (λ (s : SmallSet). has s i) (kept k l) ∙ ⊎_elim
+      (λ lt. ap (λ (s : SmallSet). has s i) (get_or_append_left rows others _ k lt))
+      (λ ge. ap (λ (s : SmallSet). has s i) (get_or-append_right rows others (length rows) k _ refl ge) ∙ past (k - length rows) i ∙ sym (none_past rows k i ge))
+      (cases_lt k (length rows));
+}
+  where
+    long : length blanks ≡ rank
+    long = ap length is ∙ length-replicate _ empty ∙ length-take-le rank (rows ++ others) (omega (arith, few, length-append rows others))
 
-module _ (from : ℕ) (rows : List SmallSet) where
-  pub taking_starts : (empty : SmallSet) → ((i : ℕ) → has empty i ≡ false) → Taken from from rows (replicate 40 empty)
-  taking_starts empty nothing = record {
-    early = λ k l i. blank 40 empty nothing k i;
-    here = λ k l b i. absurd (omega arith);
-    past = λ k l i. blank 40 empty nothing k i;
-    wide = length-replicate 40 empty;
-  }
-
-  module _ (m : ℕ) (sets : List SmallSet) (h : Taken from m rows sets) (after : from ≤ m) where
-    pub taking_adds : m < 40 → Taken from (m + 1) rows (set sets m (at rows m))
-    taking_adds l = record {
-      early = λ k b i. ap (λ (s : SmallSet). has s i) (at_other sets m k _ (omega arith)) ∙ h.early k b i;
-      here = λ k b c i. ⊎_elim
-          (λ e. subst (λ n. has (at (set sets m (at rows m)) n) i ≡ has (at rows n) i) (sym e) (ap (λ (s : SmallSet). has s i) (at_same sets m _ (omega (arith, h.wide)))))
-          (λ ne. ap (λ (s : SmallSet). has s i) (at_other sets m k _ ne) ∙ h.here k b (omega arith) i)
-          (cases_eq k m);
-      past = λ k b i. ap (λ (s : SmallSet). has s i) (at_other sets m k _ (omega arith)) ∙ h.past k (omega arith) i;
-      wide = length-set sets m _ ∙ h.wide;
-    }
-
-  pub taking_ends : (m : ℕ) (sets : List SmallSet) → Taken from m rows sets → length rows ≤ m → Rest from rows sets
-  taking_ends m sets h end = record {
-    early = h.early;
-    late = λ k l i. ⊎_elim (λ b. h.here k l b i) (λ past. h.past k past i ∙ sym (none_past rows k i (omega arith))) (cases_lt k m);
-  }
+    kept : (k : ℕ) → rank ≤ k → at (blanks ++ drop rank (rows ++ others)) k ≡ at (rows ++ others) k
+    kept k l = get_or-append_right blanks (drop rank (rows ++ others)) rank k _ long l ∙ get_or-drop rank (rows ++ others) (k - rank) _ ∙ ap (at (rows ++ others)) (omega arith)

@@ -1,10 +1,10 @@
 -- What the public calls answer.
-use Rattle.std.specs.Prelude.{◌≡◌, ℕ, ◌<◌, ◌≤◌, Bool, true, false, not, Some, None, Option}
+use Rattle.std.specs.Prelude.{◌≡◌, ℕ, ◌<◌, ◌≤◌, Bool, true, false, not, Some, None, Option, Ok, Err, Result}
 use Rattle.sets.specs.declared.set.SmallSet.{SmallSet}
 use Rattle.sets.specs.Members.{has}
 use Rattle.table.specs.Contents.{Contents}
-use Rattle.recovery.specs.declared.solution.Solution.{Solution}
-use Rattle.recovery.specs.declared.solution.Solution.TheVariants.{Recipe, Loss, NoUnit}
+use Rattle.recovery.specs.declared.unreadable.Unreadable.{Unreadable}
+use Rattle.recovery.specs.declared.unreadable.Unreadable.TheVariants as why
 use Rattle.recovery.specs.Groups.{units, in_group}
 use Rattle.recovery.specs.Recipes.{RecipeFor, LossSetFor, Determined, Hidden}
 
@@ -31,11 +31,11 @@ pub record Lost {C : Type 0} (o : C) (plus : C → C → C) (t : Contents) (good
   pub hidden : Hidden o plus t good u
   pub no_recipe : (s : ℕ → Bool) → RecipeFor o plus t good u s → ⊥
 
--- the answer for unit u; there is none for a number that is no unit
-abbrev pub Solved : {C : Type 0} → C → (C → C → C) → Contents → (ℕ → Bool) → ℕ → Solution → Type 0
-Solved o plus t good u (Recipe s) = ReadBack o plus t good u (has s)
-Solved o plus t good u (Loss l) = Lost o plus t good u (has l)
-Solved o plus t good u NoUnit = units t ≤ u
+-- the answer for unit u: a recipe, or why there is none
+abbrev pub Solved : {C : Type 0} → C → (C → C → C) → Contents → (ℕ → Bool) → ℕ → Result SmallSet Unreadable → Type 0
+Solved o plus t good u (Ok s) = ReadBack o plus t good u (has s)
+Solved o plus t good u (Err (why.Lost l)) = Lost o plus t good u (has l)
+Solved o plus t good u (Err why.NoUnit) = units t ≤ u
 
 -- some set is a loss set for unit u
 abbrev pub HasLoss : Contents → (ℕ → Bool) → ℕ → Type 0

@@ -1,4 +1,5 @@
 pub mod Groups
+pub mod Layouts
 pub mod Books
 pub mod Recipes
 pub mod Rows

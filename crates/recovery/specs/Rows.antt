@@ -1,5 +1,5 @@
 -- Elimination over sets of units, the rows of a matrix over GF(2). Nobody above the solver needs these.
-use Rattle.std.specs.Prelude.{◌≡◌, ℕ, ◌<◌, ◌≤◌, true, false, ◌&&◌, ◌⊎◌, List, length, Some, None, Option}
+use Rattle.std.specs.Prelude.{◌≡◌, ℕ, ◌<◌, ◌≤◌, true, false, ◌&&◌, ◌⊎◌, List, length, Option, MatchOption}
 use Rattle.std.specs.Bool.{xor}
 use Rattle.sets.specs.declared.set.SmallSet.{SmallSet}
 use Rattle.sets.specs.Members.{has}
@@ -9,8 +9,7 @@ use Rattle.recovery.specs.Groups.{at}
 
 -- of the rows from place `from` on, r is the place of one that has the unit u, if there is one
 abbrev pub RowWith : List SmallSet → ℕ → ℕ → Option ℕ → Type 0
-RowWith rows from u None = (k : ℕ) → from ≤ k → has (at rows k) u ≡ false
-RowWith rows from u (Some k) = (from ≤ k) × (k < length rows) × (has (at rows k) u ≡ true)
+RowWith rows from u r = MatchOption r ((k : ℕ) → from ≤ k → has (at rows k) u ≡ false) (λ k. (from ≤ k) × (k < length rows) × (has (at rows k) u ≡ true))
 
 -- the row at place i, the pivot, was added to each row after it that has the unit u
 pub record Cleared (i u : ℕ) (before rows : List SmallSet) : Type 0 where

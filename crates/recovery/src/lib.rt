@@ -3,11 +3,11 @@
 
 mod layout;
 mod rows;
-mod solution;
 #[cfg(test)]
 mod tests;
+mod unreadable;
 mod worked;
 
 pub use layout::{GROUPS, Layout};
-pub use solution::Solution;
+pub use unreadable::Unreadable;
 pub use worked::{WorkedMissing, worked_missing};

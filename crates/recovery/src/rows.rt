@@ -11,12 +11,7 @@ use sets::SmallSet;
 pub(crate) fn row_with(rows: &[SmallSet], from: usize, unit: usize) -> Option<usize>
     ensures { RowWith rows.now from unit result }
 {
-    for place in from..rows.len() {
-        if rows[place].contains(unit) {
-            return Some(place);
-        }
-    }
-    None
+    (from..rows.len()).find(|place| rows[*place].contains(unit))
 }
 
 // Takes `unit` out of the rows after the pivot, which has it, by adding the pivot to each that has it.
@@ -25,9 +20,9 @@ fn clear(rows: &mut [SmallSet], pivot: usize, unit: usize)
     ensures { Cleared pivot unit rows.old rows.new }
 {
     let row = rows[pivot];
-    for place in pivot + 1..rows.len() {
-        if rows[place].contains(unit) {
-            rows[place] = rows[place].symmetric_difference(row);
+    for other in rows[pivot + 1..].iter_mut() {
+        if other.contains(unit) {
+            *other = other.symmetric_difference(row);
         }
     }
 }
@@ -50,15 +45,14 @@ pub(crate) fn eliminate<C: Cell>(rows: &mut [SmallSet], asked: SmallSet) -> usiz
 
 // `unit` with leading units of the pivots, an even number of units of each pivot. Goes from the last pivot to the first,
 // since the leading unit of a pivot may be in the pivots before it, and is in none after it.
-pub(crate) fn balance(rows: &[SmallSet], rank: usize, asked: SmallSet, unit: usize) -> SmallSet
-    requires shape { Pivots asked rows.now rank }
+pub(crate) fn balance(pivots: &[SmallSet], asked: SmallSet, unit: usize) -> SmallSet
+    requires shape { Pivots asked pivots.now (length pivots.now) }
     requires unit { (unit < 64) × (has asked unit ≡ false) }
-    ensures { Balanced asked rows.now rank unit 0 result }
+    ensures { Balanced asked pivots.now (length pivots.now) unit 0 result }
 {
     let mut set = SmallSet::of(unit);
-    for place in (0..rank).rev() {
-        let pivot = rows[place];
-        if set.meets_oddly(pivot) {
+    for pivot in pivots.iter().rev() {
+        if set.meets_oddly(*pivot) {
             if let Some(lead) = pivot.intersection(asked).least() {
                 set = set.with(lead);
             }

@@ -1,13 +1,13 @@
 -- The search for deadly sets, step by step.
-use Rattle.std.proofs.Common.{◌≡◌, ℕ, suc, ◌+◌, ◌<◌, ◌≤◌, Bool, true, false, cond, ◌&&◌, ◌||◌, eqb, ltb, ◌⊎◌, is_some, Some, None, Decides, Option, sym, refl, ap, ◌∙◌, subst, inl, inr, ⊎_elim, arith, MatchOption}
+use Rattle.std.proofs.Common.{◌≡◌, ℕ, suc, ◌+◌, ◌<◌, ◌≤◌, Bool, true, false, cond, not, ◌&&◌, ◌||◌, eqb, ltb, ◌⊎◌, Decides, sym, refl, ap, ◌∙◌, subst, inl, inr, ⊎_elim, arith}
 use mir.Val.{bool_byte}
-use Rattle.std.proofs.lemmas.Bool.{false≢true, cases_Bool, cases_lt, both_ways, eq-eqb, ne_eqb, lt-ltb, and_from, and_left, or_right}
+use Rattle.std.proofs.lemmas.Bool.{false≢true, cases_Bool, cases_lt, both_ways, not-true, not_from_false, eq-eqb, ne_eqb, lt-ltb, and_from, and_left, or_right}
 use Rattle.sets.specs.declared.set.SmallSet.{SmallSet}
 use Rattle.sets.specs.Members.{has}
-use Rattle.sets.specs.Steps.{Empty, Least}
+use Rattle.sets.specs.Steps.{Empty}
 use Rattle.sets.specs.Sums.{count}
 use Rattle.sets.proofs.Bits.{same_set}
-use Rattle.sets.proofs.Sums.{sum_start, sum_more, count_none, count_without}
+use Rattle.sets.proofs.Sums.{sum_start, sum_more, count_none, count_without, count_member}
 use Rattle.cell.specs.Kinds.{Laws}
 use Rattle.table.specs.Contents.{Contents}
 use Rattle.recovery.specs.Groups.{units}
@@ -19,16 +19,27 @@ use Rattle.risk.proofs.Lists.{list_none, list_one, list_like, list_both}
 
 -- ---- whether a set is deadly
 
--- a set of missing units is deadly exactly if the set of the lost records has a least member
-pub told_deadly : {C : Type 0} (o : C) (plus : C → C → C) → Laws o plus → (t : Contents) (m lost : SmallSet) → LostRecords o plus t (but m) lost
-    → (r : Option ℕ) → MatchOption r (Empty lost) (Least lost) → Decides (is_some r) (Deadly t m)
-told_deadly o plus laws t m lost records None empty = (
-  (λ e. absurd (false≢true e)),
-  (λ x.
-      let recipe = records.others x.0 x.1 (empty x.0) in
-      absurd (never_both o plus laws t (but m) x.0 recipe.0 x.2.0 recipe.1 x.2.1)),
-)
-told_deadly o plus laws t m lost records (Some d) least = ((λ e. let x = records.lost d least.member in (d, x.0, x.1)), (λ x. refl))
+-- a set of missing units is deadly exactly if the set of the lost records is not empty
+module _ {C : Type 0} (o : C) (plus : C → C → C) (laws : Laws o plus) (t : Contents) (m lost : SmallSet) (few : t.n ≤ 64) (records : LostRecords o plus t (but m) lost) where
+  none_lost : count 64 (has lost) ≤ 0 → Empty lost
+  none_lost none i = ⊎_elim
+      (λ e. absurd (omega (arith, none, count_without 64 i (has lost) (omega (arith, few, (records.lost i e).0)) e)))
+      (λ e. e)
+      (cases_Bool (has lost i))
+
+  pub told_deadly : (empty : Bool) → Decides empty (Empty lost) → Decides (not empty) (Deadly t m)
+  told_deadly empty told = (
+    (λ e. ⊎_elim
+        (λ some. let d = count_member 64 (has lost) some in let x = records.lost d.0 d.2 in (d.0, x.0, x.1))
+        (λ none. absurd (both_ways empty (not-true empty e) (told.1 (none_lost none))))
+        (cases_lt 0 (count 64 (has lost)))),
+    (λ x. ⊎_elim
+        (λ e.
+        let recipe = records.others x.0 x.1 (told.0 e x.0) in
+        absurd (never_both o plus laws t (but m) x.0 recipe.0 x.2.0 recipe.1 x.2.1))
+        (not_from_false empty)
+        (cases_Bool empty)),
+  )
 
 -- ---- what a set counts
 

@@ -2,7 +2,7 @@
 #![tactic(auto)]
 
 ghost use Rattle.std.specs.Prelude.{◌≡◌, ◌≤◌, Decides};
-ghost use Rattle.table.specs.Held.{contents};
+ghost use Rattle.recovery.specs.Layouts.{laid_out};
 ghost use Rattle.risk.specs.Choose.{choose};
 ghost use Rattle.risk.specs.Deadly.{Deadly};
 ghost use Rattle.risk.specs.Extends.{ClearBelow, Found};
@@ -31,7 +31,7 @@ pub struct Risk {
 impl Risk {
     /// The risk of a table, by its layout.
     pub fn of(layout: &Layout) -> Risk
-        ensures { RiskOf (contents layout.now.table) result }
+        ensures { RiskOf (laid_out layout.now) result }
     {
         let table = layout.table();
         let units = table.n() + table.v();
@@ -64,7 +64,7 @@ fn deadly(layout: &Layout, missing: SmallSet, below: usize, more: usize) -> u64
     requires room { below ≤ 64 }
     requires clear { ClearBelow below missing }
     requires few { choose below more ≤ limit }
-    ensures found { Found (contents layout.now.table) missing below more result }
+    ensures found { Found (laid_out layout.now) missing below more result }
     ensures few { result ≤ choose below more }
 {
     if more == 0 {
@@ -79,7 +79,7 @@ fn deadly(layout: &Layout, missing: SmallSet, below: usize, more: usize) -> u64
 
 // Whether some record is lost if the units of `missing` are missing.
 fn loses(layout: &Layout, missing: SmallSet) -> bool
-    ensures { Decides result (Deadly (contents layout.now.table) missing) }
+    ensures { Decides result (Deadly (laid_out layout.now) missing) }
 {
-    layout.lost::<u8>(missing).least().is_some()
+    !layout.lost::<u8>(missing).is_empty()
 }

@@ -13,7 +13,7 @@ use crate::members::Members;
 const LIMIT: usize = 64;
 
 /// A set of numbers from 0 to 63. Any number may be asked for or given: past 63 none is a member, and none is added.
-#[derive(Clone, Copy, Eq, Debug)]
+#[derive(Clone, Copy, Default, Eq, Debug)]
 pub struct SmallSet {
     // Bit `i` is 1 where `i` is a member.
     bits: u64,

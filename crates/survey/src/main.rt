@@ -7,6 +7,7 @@ mod choice;
 mod rank;
 mod tally;
 mod trial;
+mod unread;
 mod witness;
 
 use choice::{Choice, larger};
@@ -15,6 +16,7 @@ use std::io;
 use table::Table;
 use tally::{Line, Tally};
 use trial::Trial;
+use unread::Unread;
 
 /// The most units that are missing at a time.
 const MOST: usize = 5;
@@ -26,12 +28,12 @@ const COLUMNS: &str = "  missing     sets  recipes   losses  unreadable records 
 fn survey_sizes(rt: &HostRuntime, trial: &Trial) -> io::Result<Tally> {
     let heap = rt.alloc();
     let units = trial.units();
-    let mut total = Tally::none();
-    let mut choices = vec![in heap; Choice::none()]?;
+    let mut total = Tally::default();
+    let mut choices = vec![in heap; Choice::default()]?;
     for size in 0..=MOST.min(units) {
         let tally = trial.ask_all(choices.as_slice());
         rt.println(Line { size, tally })?;
-        total = total.plus(tally);
+        total = total + tally;
         choices = larger(heap, choices.as_slice(), units)?;
     }
     Ok(total)
@@ -52,34 +54,32 @@ fn survey_table(rt: &HostRuntime, name: &str, table: Table) -> io::Result<Tally>
     Ok(tally)
 }
 
-// The bytes that the words of a line write in decimal, or nothing if a word writes none.
-fn bytes_of(heap: Global, words: &str) -> Result<Option<Vec<u8>>, AllocError> {
-    let mut bytes = Vec::new(heap);
-    for word in words.split_whitespace() {
-        match word.parse::<u8>() {
-            Ok(byte) => bytes.push(byte)?,
-            Err(_) => return Ok(None),
-        }
-    }
-    Ok(Some(bytes))
+// The table whose bytes the words write in decimal.
+fn read(heap: Global, words: &str) -> Result<Table, Unread> {
+    let bytes: Vec<u8> = words
+        .split_whitespace()
+        .map(|word| word.parse::<u8>().map_err(Unread::from))
+        .try_collect(heap)?;
+    Ok(Table::read(bytes.as_slice())?)
 }
 
 // Prints the part of a line: the name of a table, a colon and its bytes.
 fn survey_line(rt: &HostRuntime, line: &str) -> io::Result<Tally> {
     let (name, words) = line.split_once(':').unwrap_or(("table", line));
-    if let Some(bytes) = bytes_of(rt.alloc(), words)? {
-        if let Ok(table) = Table::read(bytes.as_slice()) {
-            return survey_table(rt, name, table);
+    match read(rt.alloc(), words) {
+        Ok(table) => survey_table(rt, name, table),
+        Err(Unread::Memory) => Err(AllocError.into()),
+        Err(Unread::NoByte(_) | Unread::NoTable(_)) => {
+            println!(rt; "{name}: no table")?;
+            Ok(Tally::default())
         }
     }
-    println!(rt; "{name}: no table")?;
-    Ok(Tally::none())
 }
 
 fn main(rt: HostRuntime) -> io::Result<()> {
-    let mut total = Tally::none();
+    let mut total = Tally::default();
     for line in rt.lines(rt.alloc()) {
-        total = total.plus(survey_line(&rt, line?.as_str())?);
+        total = total + survey_line(&rt, line?.as_str())?;
     }
     let Tally { answers, wrong, .. } = total;
     println!(rt; "{answers} answers checked, {wrong} wrong")

@@ -1,9 +1,10 @@
 ghost use Rattle.std.specs.Prelude.{◌≡◌, T};
 
 use std::fmt;
+use std::ops::Add;
 
 /// What was asked, and what came of it.
-#[derive(Clone, Copy)]
+#[derive(Clone, Copy, Default)]
 pub struct Tally {
     /// Missing sets.
     pub sets: u32,
@@ -24,22 +25,6 @@ pub struct Tally {
 }
 
 impl Tally {
-    /// Nothing asked yet.
-    pub fn none() -> Tally
-        ensures { result.wrong ≡ 0 }
-    {
-        Tally {
-            sets: 0,
-            recipes: 0,
-            losses: 0,
-            unreadable: 0,
-            harmful: 0,
-            related: 0,
-            answers: 0,
-            wrong: 0,
-        }
-    }
-
     /// One answer, right or wrong.
     pub fn of_answer(right: bool) -> Tally
         ensures { result.wrong ≡ 0 → T right }
@@ -47,14 +32,18 @@ impl Tally {
         Tally {
             answers: 1,
             wrong: u32::from(!right),
-            ..Tally::none()
+            ..Tally::default()
         }
     }
+}
 
-    /// Both together. No wrong answer is forgotten.
-    pub fn plus(self, other: Tally) -> Tally
-        ensures { result.wrong ≡ 0 → (self.wrong ≡ 0) × (other.wrong ≡ 0) }
-    {
+// Both together. No wrong answer is forgotten.
+impl Add for Tally {
+    type Output = Tally;
+
+    ghost add_gives = { λ a b r. r.wrong ≡ 0 → (a.wrong ≡ 0) × (b.wrong ≡ 0) };
+
+    fn add(self, other: Tally) -> Tally {
         Tally {
             sets: self.sets.saturating_add(other.sets),
             recipes: self.recipes.saturating_add(other.recipes),

@@ -2,7 +2,7 @@ use crate::choice::Choice;
 use crate::tally::Tally;
 use crate::witness::Witness;
 use cell::Cell;
-use recovery::{Layout, Solution};
+use recovery::{Layout, Unreadable};
 use sets::SmallSet;
 use table::Table;
 
@@ -35,16 +35,16 @@ impl Trial {
             return answer;
         }
         match solution {
-            Solution::Recipe(_) => Tally {
+            Ok(_) => Tally {
                 recipes: 1,
                 ..answer
             },
-            Solution::Loss(_) => Tally {
+            Err(Unreadable::Lost(_)) => Tally {
                 losses: 1,
                 unreadable: u32::from(number < self.layout.table().n()),
                 ..answer
             },
-            Solution::NoUnit => answer,
+            Err(Unreadable::NoUnit) => answer,
         }
     }
 
@@ -65,27 +65,22 @@ impl Trial {
 
     // Asks for the relations, for every unit, for three numbers that are no units, and for the lost record units.
     fn ask_set(&self, missing: SmallSet) -> Tally {
-        let mut tally = self
-            .ask_relations(missing)
-            .plus(self.ask(missing, 64))
-            .plus(self.ask(missing, usize::MAX));
-        for number in 0..=self.units() {
-            tally = tally.plus(self.ask(missing, number));
-        }
-        tally = tally.plus(self.ask_lost(missing, tally.unreadable));
+        let tally = (0..=self.units())
+            .chain([64, usize::MAX])
+            .map(|number| self.ask(missing, number))
+            .fold(self.ask_relations(missing), |sum, tally| sum + tally);
         Tally {
             sets: 1,
             harmful: u32::from(tally.unreadable > 0),
-            ..tally
+            ..tally + self.ask_lost(missing, tally.unreadable)
         }
     }
 
     /// Asks with each of these sets missing in turn.
     pub fn ask_all(&self, missing_sets: &[Choice]) -> Tally {
-        let mut tally = Tally::none();
-        for missing in missing_sets {
-            tally = tally.plus(self.ask_set(missing.chosen));
-        }
-        tally
+        missing_sets
+            .iter()
+            .map(|missing| self.ask_set(missing.chosen))
+            .fold(Tally::default(), |sum, tally| sum + tally)
     }
 }

@@ -1,90 +1,103 @@
-ghost use Rattle.std.specs.Prelude.{◌≡◌, ℕ, ◌≤◌, not, ◌&&◌, Decides};
-ghost use Rattle.sets.specs.Members.{has};
+ghost use Rattle.std.specs.Prelude.{◌≤◌};
 
 use crate::rank::rank;
-use recovery::{GROUPS, Solution};
+use recovery::{GROUPS, Unreadable};
 use sets::SmallSet;
+use std::array;
 use table::Table;
 
 /// Units are below this.
 const LIMIT: usize = 64;
 
-/// What a table's blocks say of its units, as vectors over GF(2).
+/// What a unit is, as vectors over GF(2).
+#[derive(Clone, Copy)]
+struct Vectors {
+    // The books in which it holds a one. In book j record unit j holds a one, and the others hold zero. Sums are linear, so
+    // one that is right in each of these books is right in every book.
+    ones: SmallSet,
+    // The points in whose groups it is.
+    points: SmallSet,
+}
+
+/// What a table's blocks say of its units.
 #[derive(Clone, Copy)]
 pub struct Witness {
     pub units: SmallSet,
-    // For each unit the books in which it holds a one. In book j record unit j holds a one, and the others hold zero.
-    // Sums are linear, so one that is right in each of these books is right in every book.
-    ones: [SmallSet; LIMIT],
-    // For each unit the points in whose groups it is.
-    points: [SmallSet; LIMIT],
+    vectors: [Vectors; LIMIT],
 }
 
 impl Witness {
     /// What the blocks of `table` say.
     pub fn of(table: &Table) -> Witness {
-        let mut units = SmallSet::empty();
-        let mut ones = [SmallSet::empty(); LIMIT];
-        let mut points = [SmallSet::empty(); LIMIT];
-        for unit in 0..table.n().saturating_add(table.v()).min(LIMIT) {
-            units = units.with(unit);
-            ones[unit] = ones_of(table, unit);
-            points[unit] = points_of(table, unit);
-        }
+        let units = table.n().saturating_add(table.v());
         Witness {
-            units,
-            ones,
-            points,
+            units: SmallSet::from_fn(|unit| unit < units),
+            vectors: array::from_fn(|unit| Vectors {
+                ones: ones_of(table, unit),
+                points: points_of(table, unit),
+            }),
         }
     }
 
     // The units that are not missing.
-    fn good(&self, missing: SmallSet) -> SmallSet
-        ensures { (i : ℕ) → has result i ≡ (has self.now.units i && not (has missing i)) }
+    fn good(&self, missing: SmallSet) -> SmallSet {
+        self.units.difference(missing)
+    }
+
+    // The sum of the vectors that `of` takes of the members.
+    fn sum<F: Fn(&Vectors) -> SmallSet>(&self, members: SmallSet, of: F) -> SmallSet
+        requires { F.IsAlwaysCallable of }
     {
-        let gone = self.units.intersection(missing);
-        self.units.symmetric_difference(gone)
+        let mut sum = SmallSet::empty();
+        for member in members.iter() {
+            if let Some(vectors) = self.vectors.get(member) {
+                sum = sum.symmetric_difference(of(vectors));
+            }
+        }
+        sum
+    }
+
+    // The books in which the members' cells sum to a one.
+    fn ones(&self, members: SmallSet) -> SmallSet {
+        self.sum(members, |vectors| vectors.ones)
     }
 
     /// Whether `solution` is right for `number`, where the units of `missing` are missing.
-    pub fn confirms(&self, missing: SmallSet, number: usize, solution: Solution) -> bool {
+    pub fn confirms(
+        &self,
+        missing: SmallSet,
+        number: usize,
+        solution: Result<SmallSet, Unreadable>,
+    ) -> bool {
         match solution {
-            Solution::Recipe(recipe) => self.units.contains(number)
-                && is_within(recipe, self.good(missing))
-                && sum(&self.ones, recipe) == sum(&self.ones, SmallSet::of(number)),
-            Solution::Loss(lost) => lost.contains(number)
-                && is_within(lost, self.units.intersection(missing))
-                && sum(&self.points, lost) == SmallSet::empty(),
-            Solution::NoUnit => !self.units.contains(number),
+            Ok(recipe) => self.units.contains(number)
+                && recipe.is_subset(self.good(missing))
+                && self.ones(recipe) == self.ones(SmallSet::of(number)),
+            Err(Unreadable::Lost(lost)) => lost.contains(number)
+                && lost.is_subset(self.units.intersection(missing))
+                && self.sum(lost, |vectors| vectors.points).is_empty(),
+            Err(Unreadable::NoUnit) => !self.units.contains(number),
         }
-    }
-
-    // Whether each of the sets has good units only, and sums to zero in every book.
-    fn sum_to_zero(&self, good: SmallSet, relations: &[SmallSet]) -> bool {
-        for relation in relations {
-            if !is_within(*relation, good) || sum(&self.ones, *relation) != SmallSet::empty() {
-                return false;
-            }
-        }
-        true
     }
 
     // How many good units are independent of each other.
     fn rank_of(&self, good: SmallSet) -> usize
         ensures { result ≤ 64 }
     {
-        let mut vectors = [SmallSet::empty(); LIMIT];
-        for unit in good.iter() {
-            vectors[unit] = self.ones[unit];
-        }
+        let mut vectors: [SmallSet; LIMIT] = array::from_fn(|unit| if good.contains(unit) {
+            self.ones(SmallSet::of(unit))
+        } else {
+            SmallSet::empty()
+        });
         rank(&mut vectors)
     }
 
     /// Whether the relations are right where the units of `missing` are missing, and as many as can be are independent.
     pub fn confirms_relations(&self, missing: SmallSet, mut relations: [SmallSet; GROUPS]) -> bool {
         let good = self.good(missing);
-        self.sum_to_zero(good, &relations)
-            && rank(&mut relations) + self.rank_of(good) == good.len()
+        let right = relations.iter().all(|relation| relation.is_subset(good)
+            && self.ones(*relation).is_empty());
+        right && rank(&mut relations) + self.rank_of(good) == good.len()
     }
 }
 
@@ -94,37 +107,13 @@ fn ones_of(table: &Table, unit: usize) -> SmallSet {
     if unit < n {
         return SmallSet::of(unit);
     }
-    let mut ones = SmallSet::empty();
-    for book in 0..n {
-        if table.block_has(book, unit - n) {
-            ones = ones.with(book);
-        }
-    }
-    ones
+    let point = unit - n;
+    SmallSet::from_fn(|book| table.block_has(book, point))
 }
 
 // The points in whose groups `unit` is: the block of a record unit, the own point of a check unit.
 fn points_of(table: &Table, unit: usize) -> SmallSet {
-    match table.block(unit) {
-        Some(block) => block,
-        None => SmallSet::of(unit.saturating_sub(table.n())),
-    }
-}
-
-// The sum of the members' vectors.
-fn sum(vectors: &[SmallSet], members: SmallSet) -> SmallSet {
-    let mut sum = SmallSet::empty();
-    for member in members.iter() {
-        if let Some(vector) = vectors.get(member) {
-            sum = sum.symmetric_difference(*vector);
-        }
-    }
-    sum
-}
-
-// Whether each member of `inner` is one of `outer`.
-fn is_within(inner: SmallSet, outer: SmallSet) -> bool
-    ensures { Decides result ((i : ℕ) → (has inner i && has outer i) ≡ has inner i) }
-{
-    inner.intersection(outer) == inner
+    table
+        .block(unit)
+        .unwrap_or_else(|| SmallSet::of(unit.saturating_sub(table.n())))
 }

@@ -1,37 +1,26 @@
-ghost use Rattle.std.specs.Prelude.{◌≡◌, ℕ, ◌<◌, ◌≤◌, length, nat_lt};
+ghost use Rattle.std.specs.Prelude.{◌≡◌, ℕ, length};
 ghost use Rattle.sets.specs.Members.{has};
 ghost use Rattle.table.specs.Held.{contents};
 ghost use Rattle.recovery.specs.Groups.{Grouped, in_group};
+ghost use Rattle.recovery.specs.Layouts.{table_of};
 
 use super::{GROUPS, Layout};
 use sets::SmallSet;
+use std::array;
 use table::Table;
 
 impl Layout {
     /// The layout of a table.
     pub fn new(table: Table) -> Layout
-        ensures { result.table ≡ table }
+        ensures { table_of result ≡ table }
     {
-        let units = below(table.n() + table.v());
-        let groups = groups(&table);
+        let units = table.n() + table.v();
         Layout {
+            units: SmallSet::from_fn(|unit| unit < units),
+            groups: groups(&table),
             table,
-            units,
-            groups,
         }
     }
-}
-
-// The numbers below `count`.
-fn below(count: usize) -> SmallSet
-    requires { count ≤ 64 }
-    ensures { (u : ℕ) → has result u ≡ nat_lt u count }
-{
-    let mut set = SmallSet::empty();
-    for number in 0..count {
-        set = set.with(number);
-    }
-    set
 }
 
 // The group of each point.
@@ -39,23 +28,16 @@ fn groups(table: &Table) -> [SmallSet; GROUPS]
     ensures wide { length result ≡ 40 }
     ensures grouped { Grouped (contents table.now) result }
 {
-    let mut groups = [SmallSet::empty(); GROUPS];
-    for point in 0..table.v() {
-        groups[point] = group(table, point);
-    }
-    groups
+    array::from_fn(|point| group(table, point))
 }
 
-// The group of one point.
+// The group of one point; the empty set past the points.
 fn group(table: &Table, point: usize) -> SmallSet
-    requires { point < (contents table.now).v }
     ensures { (u : ℕ) → has result u ≡ in_group (contents table.now) point u }
 {
-    let mut group = SmallSet::of(table.n() + point);
-    for unit in 0..table.n() {
-        if table.block_has(unit, point) {
-            group = group.with(unit);
-        }
+    if point >= table.v() {
+        return SmallSet::empty();
     }
-    group
+    let check = table.n() + point;
+    SmallSet::from_fn(|unit| unit == check || table.block_has(unit, point))
 }

@@ -1,26 +1,44 @@
-use Rattle.std.proofs.Common.{◌≡◌, ◌-◌, sym, subst, arith}
-use Rattle.recovery.specs.Groups.{at}
-use Rattle.recovery.specs.Rows.{Balanced}
-use Rattle.recovery.proofs.Balancing.{balance_starts, balance_stays, balance_adds, least_leads, shares_one}
+use Rattle.std.proofs.Common.{◌≡◌, length, sym, ap, ◌∙◌, subst}
+use Rattle.sets.specs.Parity.{oddly}
+use Rattle.recovery.specs.Rows.{Balanced, Leads}
+use Rattle.recovery.proofs.Balancing.{balance_starts, balance_stays, balance_adds, least_leads, shares_one, all_left, turn}
 use Rattle.recovery.proofs.rows.balance.Goals as goal
 
-pub loop-place-init : goal.loop-place-init
-loop-place-init c = balance_starts _ _ _ _ c.of-set.result c.requires.unit.0 c.of-set.ensures
+pub loop-pivot-init : goal.loop-pivot-init
+loop-pivot-init c =
+    let all : c.into_iter-pivot-iterator.result.iter.rest.now ≡ c.args.pivots.now = cc in
+    record {
+      left = all_left _ _ all;
+      balanced = subst (λ n. Balanced c.args.asked c.args.pivots.now (length c.args.pivots.now) c.args.unit n c.of-set.result) (sym (ap length all)) (balance_starts _ _ _ _ c.of-set.result c.requires.unit.0 c.of-set.ensures);
+    }
 
-pub loop-place-preserved : goal.loop-place-preserved
-loop-place-preserved c = balance_stays _ _ _ _ c.loop-place.place (c.loop-place.place - 1) (omega arith) _ c.loop-place.invariant (sym c.if-meets_oddly.ensures)
+pub loop-pivot-preserved : goal.loop-pivot-preserved
+loop-pivot-preserved c =
+    let left = c.loop-pivot.pivot-iterator.iter.rest.now in
+    let t = turn c.args.pivots.now left _ _ c.loop-pivot.invariant.left c.in-Some.ensures.steps in
+    record {
+      left = t.1.then;
+      balanced = balance_stays _ _ _ _ (length left) _ t.0 _ c.loop-pivot.invariant.balanced (ap (oddly c.loop-pivot.set) t.1.here ∙ sym c.if-meets_oddly.ensures);
+    }
 
-pub loop-place-preserved-in-Some : goal.loop-place-preserved-in-Some
-loop-place-preserved-in-Some c =
-    let least = c.in-Some.ensures in
-    let lead = least_leads c.args.asked (at c.args.rows.now (c.loop-place.place - 1)) c.intersection.result c.in-Some.lead c.intersection.ensures least in
-    balance_adds _ _ _ _ c.loop-place.place (c.loop-place.place - 1) (omega arith) _ c.loop-place.invariant c.requires.shape c.requires.unit.1 (omega arith) (sym c.if-meets_oddly.ensures)
-    c.in-Some.lead least.small lead c.with-set.result c.with-set.ensures
+pub loop-pivot-preserved-in-Some-least : goal.loop-pivot-preserved-in-Some-least
+loop-pivot-preserved-in-Some-least c =
+    let left = c.loop-pivot.pivot-iterator.iter.rest.now in
+    let t = turn c.args.pivots.now left _ _ c.loop-pivot.invariant.left c.in-Some.ensures.steps in
+    let least = c.in-Some-least.ensures in
+    let lead = least_leads c.args.asked c.in-Some.pivot.now c.intersection.result c.in-Some-least.lead c.intersection.ensures least in
+    record {
+      left = t.1.then;
+      balanced = balance_adds _ _ _ _ (length left) _ t.0 _ c.loop-pivot.invariant.balanced c.requires.shape c.requires.unit.1 t.1.inside
+          (ap (oddly c.loop-pivot.set) t.1.here ∙ sym c.if-meets_oddly.ensures) c.in-Some-least.lead least.small
+          (subst (λ p. Leads c.args.asked p c.in-Some-least.lead) (sym t.1.here) lead) c.with-set.result c.with-set.ensures;
+    }
 
-pub loop-place-preserved-in_default : goal.loop-place-preserved-in_default
-loop-place-preserved-in_default c =
-    let lead = c.requires.shape.leads (c.loop-place.place - 1) (omega arith) in
-    absurd (shares_one c.args.asked (at c.args.rows.now (c.loop-place.place - 1)) c.intersection.result lead.0 c.intersection.ensures lead.1 c.in_default.ensures)
+pub loop-pivot-preserved-in_default : goal.loop-pivot-preserved-in_default
+loop-pivot-preserved-in_default c =
+    let t = turn c.args.pivots.now c.loop-pivot.pivot-iterator.iter.rest.now _ _ c.loop-pivot.invariant.left c.in-Some.ensures.steps in
+    let lead = c.requires.shape.leads _ t.1.inside in
+    absurd (shares_one c.args.asked c.in-Some.pivot.now c.intersection.result lead.0 c.intersection.ensures (subst (λ p. Leads c.args.asked p lead.0) t.1.here lead.1) c.in_default.ensures)
 
 pub returns : goal.returns
-returns c = let end : c.loop-place.place ≡ 0 = omega arith in subst (λ n. Balanced c.args.asked c.args.rows.now c.args.rank c.args.unit n c.loop-place.set) end c.loop-place.invariant
+returns c = subst (λ n. Balanced c.args.asked c.args.pivots.now (length c.args.pivots.now) c.args.unit n c.loop-pivot.set) c.in-None.ensures.steps.0 c.loop-pivot.invariant.balanced

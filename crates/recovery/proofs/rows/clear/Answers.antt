@@ -1,18 +1,19 @@
-use Rattle.std.proofs.Common.{sym, subst, arith}
-use Rattle.recovery.proofs.Elimination.{Clearing, clearing_starts, clearing_keeps, clearing_adds, clearing_ends}
+use Rattle.std.proofs.Common.{◌∙◌, sym, subst, arith}
+use Rattle.std.proofs.lemmas.List.{places, set-get_or}
+use Rattle.recovery.proofs.Elimination.{Clearing, clearing_starts, clearing_keeps, clearing_adds, cleared}
 use Rattle.recovery.proofs.rows.clear.Goals as goal
 use Rattle.recovery.proofs.rows.clear.Goals.{then-contains, else-contains}
 
-pub loop-place-init : goal.loop-place-init
-loop-place-init c = clearing_starts c.args.pivot c.args.unit c.args.rows.now
+pub loop-other-init : goal.loop-other-init
+loop-other-init c = clearing_starts _ c.args.unit _
 
-pub loop-place-preserved : goal.loop-place-preserved
-loop-place-preserved c = elim c.if-contains.branch [
-  | then-contains w ↦ subst (Clearing _ _ _ _) (sym w.rows-is)
-      (clearing_adds _ _ _ _ _ c.loop-place.invariant (omega arith) (sym w.if-contains.ensures.member) (omega arith) w.symmetric_difference.result w.symmetric_difference.ensures.members)
-  | else-contains w ↦ subst (Clearing _ _ _ _) (sym w.rows-is)
-      (clearing_keeps _ _ _ _ _ c.loop-place.invariant (omega arith) (sym w.if-contains.ensures.member))
+pub loop-other-preserved : goal.loop-other-preserved
+loop-other-preserved c = elim c.if-contains.branch [
+  | then-contains w ↦ subst (Clearing _ _ _ _) (sym w.other-items-is)
+      (clearing_adds _ _ _ _ _ c.loop-other.invariant (sym w.if-contains.ensures.member) (omega arith) w.symmetric_difference.result w.symmetric_difference.ensures.members)
+  | else-contains w ↦ subst (Clearing _ _ _ _) (sym (w.other-items-is ∙ set-get_or _ _ _))
+      (clearing_keeps _ _ _ _ _ c.loop-other.invariant (sym w.if-contains.ensures.member))
 ]
 
 pub returns : goal.returns
-returns c = clearing_ends _ _ _ _ _ c.loop-place.invariant (omega arith)
+returns c = cleared c.args.pivot c.args.unit c.loop-other.other-index c.args.rows.now c.loop-other.other-items c.requires c.loop-other.invariant (grind (arith, places))

@@ -1,5 +1,5 @@
 use Rattle.recovery.proofs.Elimination.{Clearing}
 use Rattle.recovery.proofs.rows.clear.Given as goal
 
-abbrev pub invariant-loop-place : goal.invariant-loop-place
-invariant-loop-place l = Clearing l.pivot l.unit l.place l.initial.rows l.rows
+abbrev pub invariant-loop-other : goal.invariant-loop-other
+invariant-loop-other l = Clearing l.row l.unit l.other-index l.initial.other-items l.other-items

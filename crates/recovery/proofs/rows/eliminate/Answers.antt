@@ -1,4 +1,4 @@
-use Rattle.std.proofs.Common.{◌≡◌, ap, ◌∙◌, subst}
+use Rattle.std.proofs.Common.{◌≡◌, ◌∙◌, subst}
 use Rattle.sets.specs.declared.set.SmallSet.{SmallSet}
 use Rattle.recovery.specs.Groups.{no_units}
 use Rattle.recovery.specs.Rows.{Echelon}
@@ -6,7 +6,7 @@ use Rattle.recovery.proofs.Elimination.{elimination_starts, elimination_skips, e
 use Rattle.recovery.proofs.rows.eliminate.Goals as goal
 
 pub loop-unit-init : goal.loop-unit-init
-loop-unit-init g c = let k = g.C.Cell in elimination_starts k.zero k.sum k.laws c.args.rows.now c.into_iter-unit-iterator.result.rest
+loop-unit-init g c = let k = g.C.Cell in elimination_starts k.zero k.sum k.laws c.args.rows.now c.into_iter-unit-iterator.result
 
 pub loop-unit-preserved-in-Some-row_with : goal.loop-unit-preserved-in-Some-row_with
 loop-unit-preserved-in-Some-row_with g c =
@@ -14,7 +14,7 @@ loop-unit-preserved-in-Some-row_with g c =
     let step = c.in-Some.ensures.steps in
     let found = c.in-Some-row_with.ensures in
     let moved = c.swap.ensures.by_index in
-    elimination_adds k.zero k.sum k.laws c.args.rows.now c.into_iter-unit-iterator.result.rest c.loop-unit.unit-iterator.rest c.next.new.self.rest
+    elimination_adds k.zero k.sum k.laws c.args.rows.now c.into_iter-unit-iterator.result c.loop-unit.unit-iterator c.next.new.self
     c.loop-unit.rows c.loop-unit.rank c.in-Some.unit c.loop-unit.invariant step.0 step.1
     c.in-Some-row_with.place found.0 found.1 found.2 c.swap.new.self c.clear.new.rows
     (record { at_a = moved.0 no_units; at_b = moved.1 no_units; others = λ j p q. moved.2 j no_units p q; wide = c.swap.ensures.len })
@@ -24,13 +24,13 @@ pub loop-unit-preserved : goal.loop-unit-preserved
 loop-unit-preserved g c =
     let k = g.C.Cell in
     let step = c.in-Some.ensures.steps in
-    elimination_skips k.zero k.sum k.laws c.args.rows.now c.into_iter-unit-iterator.result.rest c.loop-unit.unit-iterator.rest c.next.new.self.rest
+    elimination_skips k.zero k.sum k.laws c.args.rows.now c.into_iter-unit-iterator.result c.loop-unit.unit-iterator c.next.new.self
     c.loop-unit.rows c.loop-unit.rank c.in-Some.unit c.loop-unit.invariant step.0 step.1 c.in_default.ensures
 
 pub returns : goal.returns
 returns g c =
     let k = g.C.Cell in
-    let all : c.into_iter-unit-iterator.result.rest ≡ c.args.asked = ap (λ m. m.rest) c.into_iter-unit-iterator.ensures.into_iter_gives ∙ c.iter-unit-items.ensures in
+    let all : c.into_iter-unit-iterator.result ≡ c.args.asked = c.into_iter-unit-iterator.ensures.into_iter_gives ∙ c.iter-unit-items.ensures in
     subst (λ (s : SmallSet). Echelon k.zero k.sum c.args.rows.now s no_units c.loop-unit.rows c.loop-unit.rank) all
-    (elimination_ends k.zero k.sum k.laws c.args.rows.now c.into_iter-unit-iterator.result.rest c.loop-unit.unit-iterator.rest
+    (elimination_ends k.zero k.sum k.laws c.args.rows.now c.into_iter-unit-iterator.result c.loop-unit.unit-iterator
     c.loop-unit.rows c.loop-unit.rank c.in-None.ensures.steps.0 c.loop-unit.invariant)

@@ -1,25 +1,26 @@
-use Rattle.std.proofs.Common.{◌≡◌, ℕ, ◌-◌, ◌<◌, true, not, ◌&&◌, eqb, ltb, take, sym, refl, ap, ◌∙◌, arith}
+use Rattle.std.proofs.Common.{◌≡◌, ℕ, ◌<◌, true, not, ◌&&◌, eqb, ltb, take, sym, refl, ap, ◌∙◌, arith}
 use mathlib.Core.Bool.{and-true}
 use Rattle.std.proofs.lemmas.Bool.{ltb-true, lt-ltb, and_parts, and_right, not_from_true, not_from_false, eq-eqb, eqb-true}
 use Rattle.sets.specs.Members.{has}
-use Rattle.table.specs.Held.{contents}
 use Rattle.table.proofs.Validity.{valid_table}
 use Rattle.recovery.specs.declared.layout.Layout.{Layout}
 use Rattle.recovery.specs.Groups.{units}
+use Rattle.recovery.specs.Layouts.{laid_out}
 use Rattle.recovery.specs.Answers.{but}
+use Rattle.recovery.proofs.Balancing.{front_pivots, balanced_rows}
 use Rattle.recovery.proofs.Making.{layout_rows}
 use Rattle.recovery.proofs.Solving.{itself, read_back, lost, row_recipe, balanced_loss}
 use Rattle.recovery.proofs.layout.Layout.solve.Goals as goal
 
 -- a unit of the layout
-inside : (l : Layout) (unit : ℕ) → true ≡ has l.units unit → unit < units (contents l.table)
-inside l unit e = ltb-true unit (units (contents l.table)) (sym (l.all unit) ∙ sym e)
+inside : (l : Layout) (unit : ℕ) → true ≡ has l.units unit → unit < units (laid_out l)
+inside l unit e = ltb-true unit (units (laid_out l)) (sym (l.all unit) ∙ sym e)
 
 pub returns-then-not-contains-2 : goal.returns-then-not-contains-2
 returns-then-not-contains-2 g c =
     let k = g.C.Cell in
     let layout = c.args.self.now in
-    let t = contents layout.table in
+    let t = laid_out layout in
     let limits = (valid_table layout.table).limits in
     let unit : c.args.unit < units t = inside layout c.args.unit c.if-not-contains.ensures.member in
     read_back k.zero k.sum k.laws t c.args.missing c.args.unit c.of.result unit
@@ -31,9 +32,9 @@ pub balance-requires : goal.balance-requires
 balance-requires g c =
     let layout = c.args.self.now in
     let limits = (valid_table layout.table).limits in
-    let unit : c.args.unit < units (contents layout.table) = inside layout c.args.unit c.if-not-contains.ensures.member in
+    let unit : c.args.unit < units (laid_out layout) = inside layout c.args.unit c.if-not-contains.ensures.member in
     record {
-      shape = c.eliminate-rank.ensures.pivots;
+      shape = front_pivots c.without-others.result c.eliminate-rank.new.rows c.eliminate-rank.result c.eliminate-rank.ensures.pivots;
       unit = (
         omega (arith, limits.units),
         c.without-others.ensures c.args.unit
@@ -45,11 +46,11 @@ pub returns-in-Some : goal.returns-in-Some
 returns-in-Some g c =
     let k = g.C.Cell in
     let layout = c.args.self.now in
-    let t = contents layout.table in
+    let t = laid_out layout in
     let unit : c.args.unit < units t = inside layout c.args.unit c.if-not-contains.ensures.member in
     let found = c.in-Some.ensures in
     read_back k.zero k.sum k.laws t c.args.missing c.args.unit c.without.result unit
-    (row_recipe k.zero k.sum k.laws t c.args.missing c.args.unit (take (c.v.result - 0) layout.groups) c.eliminate-rank.new.rows c.without-others.result c.eliminate-rank.result
+    (row_recipe k.zero k.sum k.laws t c.args.missing c.args.unit (take c.v.result layout.groups) c.eliminate-rank.new.rows c.without-others.result c.eliminate-rank.result
     (layout_rows layout c.v.result c.v.ensures)
     c.eliminate-rank.ensures c.without-others.ensures c.in-Some.place found.0 found.2 c.without.result c.without.ensures)
 
@@ -57,10 +58,11 @@ pub returns-in-None : goal.returns-in-None
 returns-in-None g c =
     let k = g.C.Cell in
     let layout = c.args.self.now in
-    let t = contents layout.table in
+    let t = laid_out layout in
     let limits = (valid_table layout.table).limits in
     let unit : c.args.unit < units t = inside layout c.args.unit c.if-not-contains.ensures.member in
     lost k.zero k.sum k.laws t c.args.missing c.args.unit c.balance.result
-    (balanced_loss k.zero k.sum k.laws t c.args.missing c.args.unit (take (c.v.result - 0) layout.groups) c.eliminate-rank.new.rows c.without-others.result c.eliminate-rank.result
+    (balanced_loss k.zero k.sum k.laws t c.args.missing c.args.unit (take c.v.result layout.groups) c.eliminate-rank.new.rows c.without-others.result c.eliminate-rank.result
     (layout_rows layout c.v.result c.v.ensures)
-    c.eliminate-rank.ensures c.without-others.ensures (sym c.if-not-contains-2.ensures.member) unit limits.units c.in-None.ensures c.balance.result c.balance.ensures)
+    c.eliminate-rank.ensures c.without-others.ensures (sym c.if-not-contains-2.ensures.member) unit limits.units c.in-None.ensures c.balance.result
+    (balanced_rows c.without-others.result c.eliminate-rank.new.rows c.eliminate-rank.result c.eliminate-rank.ensures.pivots c.args.unit c.balance.result c.balance.ensures))

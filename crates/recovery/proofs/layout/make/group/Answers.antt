@@ -1,33 +1,22 @@
-use Rattle.std.proofs.Common.{◌≡◌, ◌+◌, ◌&&◌, eqb, ltb, sym, ap, ◌∙◌, subst, arith}
-use Rattle.std.proofs.lemmas.Bool.{lt-ltb}
+use Rattle.std.proofs.Common.{◌≡◌, ◌+◌, ◌<◌, ◌&&◌, ◌||◌, eqb, ltb, arith, rules, sym, ◌∙◌, ⊎_elim}
+use Rattle.std.proofs.lemmas.Bool.{cases_lt}
+use borrow.Author.Tests.{tests}
+use Rattle.sets.specs.Members.{has}
 use Rattle.table.specs.Contents.{has_point}
 use Rattle.table.specs.Held.{contents}
 use Rattle.table.proofs.Validity.{valid_table}
-use Rattle.recovery.proofs.Making.{Group, group_starts, group_skips, group_adds, group_ends}
+use Rattle.recovery.proofs.Books.{no_group, group_is, group_past}
 use Rattle.recovery.proofs.layout.make.group.Goals as goal
-use Rattle.recovery.proofs.layout.make.group.Goals.{then-block_has, else-block_has}
 
-pub loop-unit-init : goal.loop-unit-init
-loop-unit-init c =
-    let t = contents c.args.table.now in
-    let limits = (valid_table c.args.table.now).limits in
-    group_starts t c.args.point c.of-group.result (omega (arith, limits.units)) (λ u. c.of-group.ensures u ∙ ap (λ m. eqb u (m + c.args.point) && ltb u 64) c.n.ensures)
-
-pub loop-unit-preserved : goal.loop-unit-preserved
-loop-unit-preserved c =
-    let t = contents c.args.table.now in
-    let limits = (valid_table c.args.table.now).limits in
-    let inside : has_point t c.loop-unit.unit c.args.point ≡ c.block_has.result =
-    sym (c.block_has.ensures ∙ ap (λ b. b && has_point t c.loop-unit.unit c.args.point) (lt-ltb c.loop-unit.unit t.n (omega arith))) in
-    elim c.if-block_has.branch [
-      | then-block_has w ↦ subst (Group t c.args.point _) (sym w.group-is)
-          (group_adds t c.args.point c.loop-unit.unit c.loop-unit.group c.loop-unit.invariant (inside ∙ w.if-block_has.true) (omega (arith, limits.n_high)) w.with-group.result w.with-group.ensures)
-      | else-block_has w ↦ subst (Group t c.args.point _) (sym w.group-is)
-          (group_skips t c.args.point c.loop-unit.unit c.loop-unit.group c.loop-unit.invariant (inside ∙ w.if-block_has.false))
-    ]
+pub returns-then-point-v : goal.returns-then-point-v
+returns-then-point-v c u = c.empty.ensures u ∙ sym (no_group (contents c.args.table.now) c.args.point u (omega arith))
 
 pub returns : goal.returns
-returns c =
+returns c u =
     let t = contents c.args.table.now in
-    let end : c.loop-unit.unit ≡ t.n = omega arith in
-    group_ends t c.args.point c.requires c.loop-unit.group (subst (λ m. Group t c.args.point m c.loop-unit.group) end c.loop-unit.invariant)
+    let p = c.args.point in
+    let asked : u < 64 → has c.from_fn.result u ≡ (eqb u (t.n + p) || (ltb u t.n && has_point t u p)) = λ l. let k = c.from_fn.ensures.passing u l in search (rules, tests) in
+    ⊎_elim
+    (λ l. asked l ∙ sym (group_is t p u (omega arith)))
+    (λ l. c.from_fn.ensures.past u l ∙ sym (group_past t p u (omega (arith, (valid_table c.args.table.now).limits.units))))
+    (cases_lt u 64)

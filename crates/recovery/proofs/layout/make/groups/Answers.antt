@@ -1,22 +1,14 @@
-use Rattle.std.proofs.Common.{◌≡◌, subst, arith}
+use Rattle.std.proofs.Common.{◌≡◌, ℕ, arith, rules}
+use borrow.Author.Tests.{tests}
+use Rattle.sets.specs.Members.{has}
 use Rattle.table.specs.Held.{contents}
 use Rattle.table.proofs.Validity.{valid_table}
-use Rattle.recovery.proofs.Making.{GroupsBelow, groups_start, groups_add, groups_end}
+use Rattle.recovery.specs.Groups.{no_units, in_group}
+use Rattle.recovery.proofs.Making.{filled, groups_of_all}
 use Rattle.recovery.proofs.layout.make.groups.Goals as goal
 
-pub loop-point-init : goal.loop-point-init
-loop-point-init c = groups_start (contents c.args.table.now) c.empty-groups.result c.empty-groups.ensures
-
-pub loop-point-preserved : goal.loop-point-preserved
-loop-point-preserved c =
-    let limits = (valid_table c.args.table.now).limits in
-    groups_add (contents c.args.table.now) c.loop-point.point c.loop-point.groups c.loop-point.invariant (omega (arith, limits.v_high)) c.group.result c.group.ensures
-
-pub returns : goal.returns
-returns c =
+pub returns-clause-grouped : goal.returns-clause-grouped
+returns-clause-grouped c =
     let t = contents c.args.table.now in
-    let end : c.loop-point.point ≡ t.v = omega arith in
-    record {
-      wide = c.loop-point.invariant.wide;
-      grouped = groups_end t c.loop-point.groups (subst (λ m. GroupsBelow t m c.loop-point.groups) end c.loop-point.invariant);
-    }
+    groups_of_all t c.from_fn.result c.from_fn.ensures.items.long (valid_table c.args.table.now).limits.v_high
+    (λ p l. filled _ (λ p g. (u : ℕ) → has g u ≡ in_group t p u) _ c.from_fn.result (λ x y q k. search (rules, tests)) 40 0 c.from_fn.ensures.items.each p no_units (omega arith) (omega arith))
