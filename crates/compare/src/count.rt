@@ -1,58 +1,82 @@
 use crate::held::Held;
 use crate::plain::Kind;
 use crate::verdict::Verdict;
+use std::alloc::{AllocError, Global};
 use std::fmt;
+use std::iter::Sum;
+use std::num::Saturating;
+use std::ops::AddAssign;
 
 /// How many lists of bytes were compared, what they are, and on how many the two ways differ.
-#[derive(Clone, Copy)]
+#[derive(Clone, Copy, Default)]
 pub struct Count {
-    pub compared: u32,
+    pub compared: Saturating<u32>,
     pub held: Held,
-    short: u32,
-    size: u32,
-    point: u32,
-    tail: u32,
-    pair: u32,
-    cover: u32,
-    pub differ: u32,
+    short: Saturating<u32>,
+    size: Saturating<u32>,
+    point: Saturating<u32>,
+    tail: Saturating<u32>,
+    pair: Saturating<u32>,
+    cover: Saturating<u32>,
+    pub differ: Saturating<u32>,
 }
 
 impl Count {
-    pub fn new() -> Count {
-        Count {
-            compared: 0,
-            held: Held::new(),
-            short: 0,
-            size: 0,
-            point: 0,
-            tail: 0,
-            pair: 0,
-            cover: 0,
-            differ: 0,
-        }
+    /// Counts one list, which is read in both ways.
+    pub fn of(heap: Global, bytes: &[u8]) -> Result<Count, AllocError> {
+        Verdict::of(heap, bytes).map(Count::from)
     }
 
-    /// Counts one list more.
-    pub fn add(&mut self, verdict: Verdict) {
-        self.compared = self.compared.saturating_add(1);
-        if !verdict.same() {
-            self.differ = self.differ.saturating_add(1);
-        }
-        match verdict {
-            Verdict::Accepted(checks) => self.held = self.held.with(checks),
-            Verdict::Refused { kind, .. } => self.add_refused(kind),
-        }
-    }
-
-    fn add_refused(&mut self, kind: Kind) {
+    // How often lists are refused for `kind`.
+    fn refused(&mut self, kind: Kind) -> &mut Saturating<u32> {
         match kind {
-            Kind::Short => self.short = self.short.saturating_add(1),
-            Kind::Size => self.size = self.size.saturating_add(1),
-            Kind::Point => self.point = self.point.saturating_add(1),
-            Kind::Tail => self.tail = self.tail.saturating_add(1),
-            Kind::Pair => self.pair = self.pair.saturating_add(1),
-            Kind::Cover => self.cover = self.cover.saturating_add(1),
+            Kind::Short => &mut self.short,
+            Kind::Size => &mut self.size,
+            Kind::Point => &mut self.point,
+            Kind::Tail => &mut self.tail,
+            Kind::Pair => &mut self.pair,
+            Kind::Cover => &mut self.cover,
         }
+    }
+}
+
+/// One list.
+impl From<Verdict> for Count {
+    fn from(verdict: Verdict) -> Count {
+        let mut count = Count {
+            compared: Saturating(1),
+            differ: Saturating(u32::from(!verdict.same)),
+            ..Count::default()
+        };
+        match verdict.plain {
+            Ok(checks) => count.held = Held::from(checks),
+            Err(kind) => *count.refused(kind) += 1,
+        }
+        count
+    }
+}
+
+impl AddAssign for Count {
+    fn add_assign(&mut self, other: Count) {
+        self.compared += other.compared;
+        self.held += other.held;
+        self.short += other.short;
+        self.size += other.size;
+        self.point += other.point;
+        self.tail += other.tail;
+        self.pair += other.pair;
+        self.cover += other.cover;
+        self.differ += other.differ;
+    }
+}
+
+impl Sum<Count> for Count {
+    fn sum<I: Iterator<Item = Count>>(iter: I) -> Count {
+        let mut sum = Count::default();
+        for count in iter {
+            sum += count;
+        }
+        sum
     }
 }
 

@@ -1,47 +1,40 @@
 use crate::count::Count;
-use crate::verdict::Verdict;
 use std::alloc::{AllocError, Global};
 
-// Byte `at` set to each value.
-fn change(heap: Global, bytes: &[u8], at: usize, count: &mut Count) -> Result<(), AllocError> {
+// The bytes with byte `at` set to `value`.
+fn changed(heap: Global, bytes: &[u8], at: usize, value: u8) -> Result<Count, AllocError> {
     let mut copy = Vec::from_slice(heap, bytes)?;
-    for value in 0..=u8::MAX {
-        if let Some(byte) = copy.get_mut(at) {
-            *byte = value;
-        }
-        count.add(Verdict::of(heap, copy.as_slice())?);
+    if let Some(byte) = copy.get_mut(at) {
+        *byte = value;
     }
-    Ok(())
+    Count::of(heap, copy.as_slice())
 }
 
 /// Each byte set to each value.
 pub fn changes(heap: Global, bytes: &[u8]) -> Result<Count, AllocError> {
-    let mut count = Count::new();
-    for at in 0..bytes.len() {
-        change(heap, bytes, at, &mut count)?;
-    }
-    Ok(count)
+    (0..bytes.len())
+        .flat_map(|at| (0..=u8::MAX).map(move |value| changed(heap, bytes, at, value)))
+        .sum()
 }
 
 /// Each front of the bytes, from none to all.
 pub fn fronts(heap: Global, bytes: &[u8]) -> Result<Count, AllocError> {
-    let mut count = Count::new();
-    let mut front = Vec::new(heap);
-    count.add(Verdict::of(heap, front.as_slice())?);
-    for byte in bytes {
-        front.push(*byte)?;
-        count.add(Verdict::of(heap, front.as_slice())?);
-    }
-    Ok(count)
+    (0..=bytes.len())
+        .map(|end| Count::of(heap, &bytes[..end]))
+        .sum()
+}
+
+// The bytes with `value` after them.
+fn longer(heap: Global, bytes: &[u8], value: u8) -> Result<Count, AllocError> {
+    let mut longer = Vec::from_slice(heap, bytes)?;
+    longer.push(value)?;
+    Count::of(heap, longer.as_slice())
 }
 
 /// The bytes with one more after them.
 pub fn appends(heap: Global, bytes: &[u8]) -> Result<Count, AllocError> {
-    let mut count = Count::new();
-    for value in [0, 1, 2, 3, u8::MAX] {
-        let mut longer = Vec::from_slice(heap, bytes)?;
-        longer.push(value)?;
-        count.add(Verdict::of(heap, longer.as_slice())?);
-    }
-    Ok(count)
+    [0, 1, 2, 3, u8::MAX]
+        .iter()
+        .map(|value| longer(heap, bytes, *value))
+        .sum()
 }

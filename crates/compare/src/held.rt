@@ -1,47 +1,38 @@
 use crate::verdict::Checks;
 use std::fmt;
+use std::num::Saturating;
+use std::ops::AddAssign;
 
 /// How many tables were accepted, and of how many each check holds.
-#[derive(Clone, Copy)]
+#[derive(Clone, Copy, Default)]
 pub struct Held {
-    pub tables: u32,
-    parts: u32,
-    back: u32,
-    past: u32,
-    narrow: u32,
+    pub tables: Saturating<u32>,
+    parts: Saturating<u32>,
+    back: Saturating<u32>,
+    past: Saturating<u32>,
+    narrow: Saturating<u32>,
 }
 
-impl Held {
-    pub fn new() -> Held {
+/// One table.
+impl From<Checks> for Held {
+    fn from(checks: Checks) -> Held {
         Held {
-            tables: 0,
-            parts: 0,
-            back: 0,
-            past: 0,
-            narrow: 0,
+            tables: Saturating(1),
+            parts: Saturating(u32::from(checks.parts)),
+            back: Saturating(u32::from(checks.back)),
+            past: Saturating(u32::from(checks.past)),
+            narrow: Saturating(u32::from(checks.narrow)),
         }
     }
+}
 
-    /// With one table more.
-    pub fn with(self, checks: Checks) -> Held {
-        self.plus(Held {
-            tables: 1,
-            parts: u32::from(checks.parts),
-            back: u32::from(checks.back),
-            past: u32::from(checks.past),
-            narrow: u32::from(checks.narrow),
-        })
-    }
-
-    /// Both together.
-    pub fn plus(self, other: Held) -> Held {
-        Held {
-            tables: self.tables.saturating_add(other.tables),
-            parts: self.parts.saturating_add(other.parts),
-            back: self.back.saturating_add(other.back),
-            past: self.past.saturating_add(other.past),
-            narrow: self.narrow.saturating_add(other.narrow),
-        }
+impl AddAssign for Held {
+    fn add_assign(&mut self, other: Held) {
+        self.tables += other.tables;
+        self.parts += other.parts;
+        self.back += other.back;
+        self.past += other.past;
+        self.narrow += other.narrow;
     }
 }
 

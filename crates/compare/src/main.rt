@@ -10,68 +10,75 @@ mod pairings;
 mod pairs;
 mod plain;
 mod samples;
-mod total;
 mod verdict;
 mod writing;
 
 use count::Count;
 use samples::{BLOCKS_A, BLOCKS_F, table_bytes};
 use std::io;
-use table::{TableFault, table_d};
-use total::Total;
+use table::{Grade, TableFault, table_d};
 
-fn tell(rt: &HostRuntime, total: &mut Total, what: &str, count: Count) -> io::Result<()> {
-    total.add(count);
-    println!(rt; "  {what}: {count}")
+// Prints the counts, and gives their sum.
+fn tell(rt: &HostRuntime, counts: &[(&str, Count)]) -> io::Result<Count> {
+    for (what, count) in counts {
+        println!(rt; "  {what}: {count}")?;
+    }
+    Ok(counts.iter().map(|(_, count)| *count).sum())
 }
 
 // A table, damaged in each way.
-fn damaged(rt: &HostRuntime, total: &mut Total, name: &str, bytes: &[u8]) -> io::Result<()> {
+fn damaged(rt: &HostRuntime, name: &str, bytes: &[u8]) -> io::Result<Count> {
     let heap = rt.alloc();
     println!(rt; "table {name}")?;
-    let changes = damage::changes(heap, bytes)?;
-    tell(rt, total, "each byte set to each value", changes)?;
-    let fronts = damage::fronts(heap, bytes)?;
-    tell(rt, total, "each front, from none to all", fronts)?;
-    let longer = damage::appends(heap, bytes)?;
-    tell(rt, total, "with a byte more", longer)
+    let counts = [
+        ("each byte set to each value", damage::changes(heap, bytes)?),
+        ("each front, from none to all", damage::fronts(heap, bytes)?),
+        ("with a byte more", damage::appends(heap, bytes)?),
+    ];
+    tell(rt, &counts)
 }
 
 // Sizes at their limits.
-fn limits(rt: &HostRuntime, total: &mut Total) -> io::Result<()> {
+fn limits(rt: &HostRuntime) -> io::Result<Count> {
     let heap = rt.alloc();
+    let short = TableFault::Short { length: 5 };
+    let size = TableFault::Size { at: 2 };
     println!(rt; "sizes")?;
-    let around = edges::sizes(heap)?;
-    tell(rt, total, "v to 42, n to 66, k to 10", around)?;
-    let full = edges::sums(heap, 64, TableFault::Short { length: 5 })?;
-    tell(rt, total, "n + v = 64, SHORT at 5", full)?;
-    let past = edges::sums(heap, 65, TableFault::Size { at: 2 })?;
-    tell(rt, total, "n + v = 65, SIZE at 2", past)
+    let counts = [
+        ("v to 42, n to 66, k to 10", edges::sizes(heap)?),
+        ("n + v = 64, SHORT at 5", edges::sums(heap, 64, short)?),
+        ("n + v = 65, SIZE at 2", edges::sums(heap, 65, size)?),
+    ];
+    tell(rt, &counts)
 }
 
 // Tables whose blocks are pairs.
-fn paired(rt: &HostRuntime, total: &mut Total) -> io::Result<()> {
+fn paired(rt: &HostRuntime) -> io::Result<Count> {
     let heap = rt.alloc();
     println!(rt; "tables of pairs")?;
-    let largest = pairings::largest(heap)?;
-    tell(rt, total, "n + v = 64, grade 1", largest)?;
-    let whole = pairings::whole(heap)?;
-    tell(rt, total, "all pairs of v points", whole)?;
-    let left_out = pairings::left_out(heap)?;
-    tell(rt, total, "all but one, each in turn", left_out)?;
-    let repeated = pairings::repeated(heap)?;
-    tell(rt, total, "each in the place of each", repeated)
+    let counts = [
+        ("n + v = 64, grade 1", pairings::largest(heap)?),
+        ("all pairs of v points", pairings::whole(heap)?),
+        ("all but one, each in turn", pairings::left_out(heap)?),
+        ("each in the place of each", pairings::repeated(heap)?),
+    ];
+    tell(rt, &counts)
 }
 
 fn main(rt: HostRuntime) -> io::Result<()> {
     let heap = rt.alloc();
-    let table_a = table_bytes(heap, 9, &BLOCKS_A, 2)?;
-    let table_f = table_bytes(heap, 7, &BLOCKS_F, 2)?;
-    let mut total = Total::new();
-    damaged(&rt, &mut total, "D", &table_d())?;
-    damaged(&rt, &mut total, "A", table_a.as_slice())?;
-    damaged(&rt, &mut total, "F", table_f.as_slice())?;
-    limits(&rt, &mut total)?;
-    paired(&rt, &mut total)?;
-    println!(rt; "{total}")
+    let table_a = table_bytes(heap, 9, &BLOCKS_A, Grade::Steiner)?;
+    let table_f = table_bytes(heap, 7, &BLOCKS_F, Grade::Steiner)?;
+    let mut total = damaged(&rt, "D", &table_d())?;
+    total += damaged(&rt, "A", table_a.as_slice())?;
+    total += damaged(&rt, "F", table_f.as_slice())?;
+    total += limits(&rt)?;
+    total += paired(&rt)?;
+    let Count {
+        compared,
+        held,
+        differ,
+        ..
+    } = total;
+    println!(rt; "{held}\n{compared} compared, {differ} differ")
 }

@@ -1,7 +1,11 @@
-//! A second reader of tables, plain and apart from the first: a cursor takes the sections one by one, and a matrix
-//! counts how often two points lie together.
-use crate::pairs::Pairs;
+//! A second reader of tables, plain and apart from the first: a cursor takes the sections one by one, and a set has the
+//! pairs of points that lie together.
+ghost use Rattle.std.specs.Prelude.{◌≡◌};
+
+use crate::pairs::{all_pairs, pairs};
 use std::alloc::{AllocError, AllocFailed, Global};
+use std::collections::BTreeSet;
+use table::{Grade, TableFault};
 
 /// Why bytes are no table; as a number, the number of the refusal.
 #[derive(Clone, Copy)]
@@ -14,10 +18,32 @@ pub enum Kind {
     Cover = 6,
 }
 
+impl Kind {
+    fn at(self, place: usize) -> Refusal
+        ensures kind { result.kind ≡ self }
+        ensures place { result.place ≡ place }
+    {
+        Refusal { kind: self, place }
+    }
+}
+
+impl From<Kind> for u8 {
+    fn from(kind: Kind) -> u8 {
+        kind as u8
+    }
+}
+
 #[derive(Clone, Copy)]
 pub struct Refusal {
     pub kind: Kind,
-    pub place: usize,
+    place: usize,
+}
+
+impl Refusal {
+    /// Whether `fault` has the same number and place.
+    pub fn is(self, fault: TableFault) -> bool {
+        fault.number() == u8::from(self.kind) && fault.place() == self.place
+    }
 }
 
 /// Why there is no table: the bytes are refused, or memory is short.
@@ -45,11 +71,12 @@ impl<T: Drop> From<AllocFailed<T>> for Stop {
     }
 }
 
+/// The sizes that a table begins with.
 #[derive(Clone, Copy)]
-struct Sizes {
-    v: u8,
-    n: u8,
-    k: u8,
+pub struct Sizes {
+    pub v: u8,
+    pub n: u8,
+    pub k: u8,
 }
 
 // Goes through the bytes from the front.
@@ -60,106 +87,67 @@ struct Cursor<'a> {
 }
 
 impl Cursor<'_> {
-    // The next byte.
-    fn take(&mut self) -> Result<u8, Refusal> {
-        match self.bytes.get(self.at) {
-            Some(byte) => {
-                self.at = self.at.saturating_add(1);
-                Ok(*byte)
-            }
-            None => Err(Refusal {
-                kind: Kind::Short,
-                place: self.bytes.len(),
-            }),
-        }
-    }
-
-    // The next byte, which is a count, a size or a grade from `low` to `high`.
-    fn size(&mut self, low: u8, high: u8) -> Result<u8, Refusal> {
+    // The next byte, which `fits` must take; else it is refused for `kind`.
+    fn take<F: FnOnce(u8) -> bool>(&mut self, kind: Kind, fits: F) -> Result<u8, Refusal>
+        requires { F.IsAlwaysCallable fits }
+    {
         let place = self.at;
-        let byte = self.take()?;
-        if byte < low || byte > high {
-            return Err(Refusal {
-                kind: Kind::Size,
-                place,
-            });
-        }
-        Ok(byte)
-    }
-
-    // The next byte, which is a point of a block, above the one before.
-    fn point(&mut self, v: u8, before: Option<u8>) -> Result<u8, Refusal> {
-        let place = self.at;
-        let byte = self.take()?;
-        let rises = match before {
-            Some(last) => last < byte,
-            None => true,
+        let Some(&byte) = self.bytes.get(place) else {
+            return Err(Kind::Short.at(self.bytes.len()));
         };
-        if byte >= v || !rises {
-            return Err(Refusal {
-                kind: Kind::Point,
-                place,
-            });
+        self.at += 1;
+        if fits(byte) {
+            Ok(byte)
+        } else {
+            Err(kind.at(place))
         }
-        Ok(byte)
     }
 
     // The first section: v, n and k.
     fn sizes(&mut self) -> Result<Sizes, Refusal> {
-        self.size(3, 3)?;
-        let v = self.size(2, 40)?;
-        let place = self.at;
-        let n = self.size(1, 62)?;
-        if u32::from(n) + u32::from(v) > 64 {
-            return Err(Refusal {
-                kind: Kind::Size,
-                place,
-            });
-        }
-        let place = self.at;
-        let k = self.size(2, 8)?;
-        if k > v {
-            return Err(Refusal {
-                kind: Kind::Size,
-                place,
-            });
-        }
+        self.take(Kind::Size, |count| count == 3)?;
+        let v = self.take(Kind::Size, |v| matches!(v, 2..=40))?;
+        let n = self.take(
+            Kind::Size,
+            |n| matches!(n, 1..=62) && u32::from(n) + u32::from(v) <= 64,
+        )?;
+        let k = self.take(Kind::Size, |k| matches!(k, 2..=8) && k <= v)?;
         Ok(Sizes { v, n, k })
     }
 
+    // The points of a block, each above the one before.
     fn block(&mut self, heap: Global, sizes: Sizes) -> Result<Vec<u8>, Stop> {
-        let mut block = Vec::new(heap);
-        let mut before = None;
+        let mut block: Vec<u8> = Vec::new(heap);
         for _ in 0..sizes.k {
-            let point = self.point(sizes.v, before)?;
+            let point = self.take(
+                Kind::Point,
+                |p| p < sizes.v && block.last().is_none_or(|last| *last < p),
+            )?;
             block.push(point)?;
-            before = Some(point);
         }
         Ok(block)
     }
 
     // The second section.
     fn blocks(&mut self, heap: Global, sizes: Sizes) -> Result<Vec<Vec<u8>>, Stop> {
-        self.size(sizes.n, sizes.n)?;
-        let mut blocks = Vec::new(heap);
-        for _ in 0..sizes.n {
-            blocks.push(self.block(heap, sizes)?)?;
-        }
-        Ok(blocks)
+        self.take(Kind::Size, |count| count == sizes.n)?;
+        (0..sizes.n)
+            .map(|_| self.block(heap, sizes))
+            .try_collect(heap)
     }
 
     // The third section.
-    fn grade(&mut self) -> Result<u8, Refusal> {
-        self.size(1, 1)?;
-        self.size(1, 2)
+    fn grade(&mut self) -> Result<Grade, Refusal> {
+        self.take(Kind::Size, |count| count == 1)?;
+        match self.take(Kind::Size, |grade| matches!(grade, 1 | 2))? {
+            1 => Ok(Grade::Packing),
+            _ => Ok(Grade::Steiner),
+        }
     }
 
     fn end(&self) -> Result<(), Refusal> {
         if self.at < self.bytes.len() {
-            return Err(Refusal {
-                kind: Kind::Tail,
-                place: self.at,
-            });
+            return Err(Kind::Tail.at(self.at));
         }
         Ok(())
     }
@@ -168,11 +156,9 @@ impl Cursor<'_> {
 /// A table with its blocks in lists.
 #[derive(Drop)]
 pub struct Plain {
-    pub v: u8,
-    pub n: u8,
-    pub k: u8,
-    pub grade: u8,
-    pub blocks: Vec<Vec<u8>>,
+    pub sizes: Sizes,
+    pub grade: Grade,
+    blocks: Vec<Vec<u8>>,
 }
 
 impl Plain {
@@ -183,11 +169,8 @@ impl Plain {
         let blocks = cursor.blocks(heap, sizes)?;
         let grade = cursor.grade()?;
         cursor.end()?;
-        let Sizes { v, n, k } = sizes;
         let plain = Plain {
-            v,
-            n,
-            k,
+            sizes,
             grade,
             blocks,
         };
@@ -195,54 +178,44 @@ impl Plain {
         Ok(plain)
     }
 
+    // The pairs of points that lie together in a block, which none may do twice.
+    fn together(&self, heap: Global) -> Result<BTreeSet<[u8; 2]>, Stop> {
+        let mut together = BTreeSet::new(heap);
+        for (d, block) in self.blocks.iter().enumerate() {
+            let pairs = pairs(heap, block.as_slice())?;
+            if pairs.iter().any(|pair| together.contains(pair)) {
+                return Err(Kind::Pair.at(d).into());
+            }
+            together.extend(pairs)?;
+        }
+        Ok(together)
+    }
+
     // Sees that no two points lie together twice, and in grade 2 that every two do once.
     fn test(&self, heap: Global) -> Result<(), Stop> {
-        let mut pairs = Pairs::new(heap, self.v)?;
-        for (d, block) in self.blocks.iter().enumerate() {
-            if pairs.has_any_of(block.as_slice()) {
-                return Err(Stop::Refused(Refusal {
-                    kind: Kind::Pair,
-                    place: d,
-                }));
-            }
-            pairs.add(block.as_slice());
+        let together = self.together(heap)?;
+        if self.grade == Grade::Packing {
+            return Ok(());
         }
-        if self.grade == 2
-            && let Some(p) = pairs.first_alone()
-        {
-            return Err(Stop::Refused(Refusal {
-                kind: Kind::Cover,
-                place: p,
-            }));
+        let pairs = all_pairs(heap, self.sizes.v)?;
+        match pairs.iter().find(|pair| !together.contains(*pair)) {
+            Some([low, _]) => Err(Kind::Cover.at(usize::from(*low)).into()),
+            None => Ok(()),
         }
-        Ok(())
     }
 
     /// Whether block `d` is there and has `point`.
-    pub fn block_has(&self, d: usize, point: usize) -> bool {
-        match self.blocks.get(d) {
-            Some(block) => has(block.as_slice(), point),
-            None => false,
-        }
+    pub fn block_has(&self, d: usize, point: u8) -> bool {
+        self.blocks
+            .get(d)
+            .is_some_and(|block| block.contains(&point))
     }
 
     /// How many blocks have `point`.
-    pub fn behind(&self, point: usize) -> usize {
-        let mut count: usize = 0;
-        for block in self.blocks.iter() {
-            if has(block.as_slice(), point) {
-                count = count.saturating_add(1);
-            }
-        }
-        count
+    pub fn behind(&self, point: u8) -> usize {
+        self.blocks
+            .iter()
+            .filter(|block| block.contains(&point))
+            .count()
     }
-}
-
-fn has(block: &[u8], point: usize) -> bool {
-    for p in block {
-        if usize::from(*p) == point {
-            return true;
-        }
-    }
-    false
 }

@@ -1,4 +1,5 @@
 use std::alloc::{AllocError, Global};
+use table::Grade;
 
 /// Nine points, every two of them in one block.
 pub const BLOCKS_A: [[u8; 3]; 12] = [
@@ -32,14 +33,12 @@ pub fn table_bytes<const K: usize>(
     heap: Global,
     v: u8,
     blocks: &[[u8; K]],
-    grade: u8,
+    grade: Grade,
 ) -> Result<Vec<u8>, AllocError> {
     let n = u8::try_from(blocks.len()).unwrap_or(u8::MAX);
     let k = u8::try_from(K).unwrap_or(u8::MAX);
     let mut bytes = Vec::from_slice(heap, &[3, v, n, k, n])?;
-    for block in blocks {
-        bytes.extend_from_slice(block)?;
-    }
-    bytes.extend_from_slice(&[1, grade])?;
+    bytes.extend_from_slice(blocks.as_flattened())?;
+    bytes.extend_from_slice(&[1, grade.number()])?;
     Ok(bytes)
 }

@@ -1,10 +1,12 @@
-use crate::plain::{Kind, Plain, Refusal, Stop};
+ghost use Rattle.std.specs.Prelude.{◌≡◌, ◌&&◌};
+
+use crate::plain::{Kind, Plain, Sizes, Stop};
 use crate::writing::{refuses_short, writes_all, writes_front};
 use std::alloc::{AllocError, Global};
-use table::{Table, TableFault};
+use table::{Grade, Table};
 
 /// What was seen of a table that the plain reader accepts.
-#[derive(Clone, Copy)]
+#[derive(Clone, Copy, Default)]
 pub struct Checks {
     /// v, n, k, grade, load and blocks are the same.
     pub parts: bool,
@@ -18,9 +20,11 @@ pub struct Checks {
 
 /// What bytes are by the plain reader, and how the table's own reader and writer compare.
 #[derive(Clone, Copy)]
-pub enum Verdict {
-    Accepted(Checks),
-    Refused { kind: Kind, same: bool },
+pub struct Verdict {
+    /// What was seen of the table, or why there is none.
+    pub plain: Result<Checks, Kind>,
+    /// Whether the two say the same.
+    pub same: bool,
 }
 
 impl Verdict {
@@ -28,43 +32,26 @@ impl Verdict {
     pub fn of(heap: Global, bytes: &[u8]) -> Result<Verdict, AllocError> {
         let read = Table::read(bytes);
         match Plain::read(heap, bytes) {
-            Ok(plain) => Ok(Verdict::Accepted(match read {
-                Ok(table) => Checks::of(heap, &table, &plain, bytes)?,
-                Err(_) => Checks::none(),
-            })),
-            Err(Stop::Refused(refusal)) => Ok(Verdict::Refused {
-                kind: refusal.kind,
-                same: match read {
-                    Ok(_) => false,
-                    Err(fault) => same_fault(fault, refusal),
-                },
+            Ok(plain) => {
+                let checks = match read {
+                    Ok(table) => Checks::of(heap, &table, &plain, bytes)?,
+                    Err(_) => Checks::default(),
+                };
+                Ok(Verdict {
+                    plain: Ok(checks),
+                    same: checks.all(),
+                })
+            }
+            Err(Stop::Refused(refusal)) => Ok(Verdict {
+                plain: Err(refusal.kind),
+                same: read.is_err_and(|fault| refusal.is(fault)),
             }),
             Err(Stop::Memory) => Err(AllocError),
-        }
-    }
-
-    /// Whether the two say the same.
-    pub fn same(self) -> bool {
-        match self {
-            Verdict::Accepted(checks) => checks.parts
-                && checks.back
-                && checks.past
-                && checks.narrow,
-            Verdict::Refused { same, .. } => same,
         }
     }
 }
 
 impl Checks {
-    fn none() -> Checks {
-        Checks {
-            parts: false,
-            back: false,
-            past: false,
-            narrow: false,
-        }
-    }
-
     fn of(heap: Global, table: &Table, plain: &Plain, bytes: &[u8]) -> Result<Checks, AllocError> {
         Ok(Checks {
             parts: same_sizes(table, plain) && same_load(table, plain) && same_blocks(table, plain),
@@ -73,47 +60,35 @@ impl Checks {
             narrow: refuses_short(heap, table, bytes)?,
         })
     }
-}
 
-fn same_fault(fault: TableFault, refusal: Refusal) -> bool {
-    fault.number() == refusal.kind as u8 && fault.place() == refusal.place
+    fn all(self) -> bool
+        ensures { result ≡ (self.parts && self.back && self.past && self.narrow) }
+    {
+        self.parts && self.back && self.past && self.narrow
+    }
 }
 
 fn same_sizes(table: &Table, plain: &Plain) -> bool {
-    table.v() == usize::from(plain.v)
-        && table.n() == usize::from(plain.n)
-        && table.k() == usize::from(plain.k)
-        && table.grade().number() == plain.grade
+    let Sizes { v, n, k } = plain.sizes;
+    table.v() == usize::from(v)
+        && table.n() == usize::from(n)
+        && table.k() == usize::from(k)
+        && table.grade() == plain.grade
 }
 
 // In grade 2 as many record units as the load says stand behind each check unit; in grade 1 the load is 0.
 fn same_load(table: &Table, plain: &Plain) -> bool {
-    if plain.grade == 1 {
-        return table.load() == 0;
+    match plain.grade {
+        Grade::Packing => table.load() == 0,
+        Grade::Steiner => (0..plain.sizes.v).all(|p| plain.behind(p) == table.load()),
     }
-    for p in 0..usize::from(plain.v) {
-        if plain.behind(p) != table.load() {
-            return false;
-        }
-    }
-    true
 }
 
 // Every block has the same points, and there is none past the last.
 fn same_blocks(table: &Table, plain: &Plain) -> bool {
-    for d in 0..usize::from(plain.n) + 1 {
-        if !same_block(table, plain, d) {
-            return false;
-        }
-    }
-    true
+    (0..=usize::from(plain.sizes.n)).all(|d| same_block(table, plain, d))
 }
 
 fn same_block(table: &Table, plain: &Plain, d: usize) -> bool {
-    for p in 0..usize::from(plain.v) + 1 {
-        if table.block_has(d, p) != plain.block_has(d, p) {
-            return false;
-        }
-    }
-    true
+    (0..=plain.sizes.v).all(|p| table.block_has(d, usize::from(p)) == plain.block_has(d, p))
 }

@@ -1,39 +1,40 @@
+ghost use Rattle.std.specs.Prelude.{◌≡◌, ◌==◌};
+ghost use Rattle.std.specs.List.{list_all};
+ghost use Rattle.compare.specs.declared.writing.TheConstants.{MARK};
+
 use std::alloc::{AllocError, Global};
-use table::{MAX_BYTES, Table};
+use table::{MAX_BYTES, Narrow, Table};
 
 // What an output holds before it is written to: no byte of a table.
 const MARK: u8 = 0xee;
 
-fn marked(bytes: &[u8]) -> bool {
-    for b in bytes {
-        if *b != MARK {
-            return false;
-        }
-    }
-    true
+fn marked(bytes: &[u8]) -> bool
+    ensures { result ≡ list_all (λ byte. byte == MARK) bytes.now }
+{
+    bytes.iter().all(|byte| *byte == MARK)
+}
+
+// An output of `room` bytes once the table is written to it, and what the write answers.
+fn written(
+    heap: Global,
+    table: &Table,
+    room: usize,
+) -> Result<(Vec<u8>, Result<usize, Narrow>), AllocError> {
+    let mut out = vec![in heap; MARK; room]?;
+    let answer = table.write(out.as_mut_slice());
+    Ok((out, answer))
 }
 
 // Whether the table is written as `bytes` to the front of an output of `room` bytes, and the others stay.
 fn fills(heap: Global, table: &Table, bytes: &[u8], room: usize) -> Result<bool, AllocError> {
-    let mut out = vec![in heap; MARK; room]?;
-    let answer = table.write(out.as_mut_slice());
-    let out = out.as_slice();
-    Ok(match answer {
-        Ok(size) => size == bytes.len()
-            && out.get(0..size) == Some(bytes)
-            && marked(out.get(size..).unwrap_or(out)),
-        Err(_) => false,
-    })
+    let (out, answer) = written(heap, table, room)?;
+    Ok(answer == Ok(bytes.len()) && out.strip_prefix(bytes).is_some_and(marked))
 }
 
 // Whether an output of `room` bytes is refused, and stays.
 fn refuses(heap: Global, table: &Table, room: usize) -> Result<bool, AllocError> {
-    let mut out = vec![in heap; MARK; room]?;
-    let answer = table.write(out.as_mut_slice());
-    Ok(match answer {
-        Ok(_) => false,
-        Err(narrow) => narrow.number() == 21 && marked(out.as_slice()),
-    })
+    let (out, answer) = written(heap, table, room)?;
+    Ok(answer.is_err_and(|narrow| narrow.number() == 21) && marked(out.as_slice()))
 }
 
 /// Whether the table is written as `bytes` where there is room for just them.

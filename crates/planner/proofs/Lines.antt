@@ -3,7 +3,7 @@ use Rattle.std.proofs.Common.{◌≡◌, ℕ, suc, ◌+◌, ◌<◌, List, [], �
 use Rattle.std.specs.Char.{is_whitespace, is_not_whitespace}
 use Rattle.std.specs.Str.{NoCharPasses, EmptyOrStartsWithPassing}
 use Rattle.planner.specs.Numerals.{ByteOf}
-use Rattle.planner.specs.Words.{First, Begins, Words}
+use Rattle.planner.specs.Words.{First, Begins}
 use Rattle.planner.specs.Listed.{Spell, FirstBad}
 use Rattle.planner.specs.declared.listing.BadWord.{BadWord}
 
@@ -41,9 +41,6 @@ module _ {line rest bs : List ℕ} (old : Sofar line rest bs) where
     begins = begins_more line old.seen rest w next old.begins first;
     spell = rw e (spell_more old.seen bs w b old.spell one);
   }
-
-  pub no_more : NoCharPasses is_not_whitespace rest → (ws : List (List ℕ)) × Words line ws × Spell ws bs
-  no_more none = (old.seen, (rest, old.begins, none), old.spell)
 
   pub first_bad : {w next : List ℕ} (bad : BadWord) → string_bytes bad.word ≡ w → First rest w next → ByteOf w (Err bad.fault) → bad.number ≡ length bs + 1 → FirstBad line bad
   first_bad {w} {next} bad text first why place = record {

@@ -2,7 +2,7 @@
 use Rattle.std.specs.Prelude.{◌≡◌, ℕ, ◌+◌, ◌*◌, ◌<◌}
 use Rattle.planner.specs.declared.place.Field.{Field}
 use Rattle.planner.specs.declared.place.Field.TheVariants.{SizesCount, CheckUnits, RecordUnits, BlockSize, BlocksCount, Point, GradeCount, Grade}
-use Rattle.planner.specs.declared.place.Sizes.{Sizes}
+use Rattle.planner.specs.declared.reading.Sizes.{Sizes}
 
 -- byte i of a table of the sizes s is this field
 abbrev pub Stands : Sizes → ℕ → Field → Type 0

@@ -1,11 +1,11 @@
 -- What becomes of a line.
-use Rattle.std.specs.Prelude.{◌≡◌, ℕ, true, List, length, Some, None}
+use Rattle.std.specs.Prelude.{◌≡◌, ℕ, true, List, length, Some, None, Ok, Err, Result}
 use Rattle.table.specs.Contents.{load}
 use Rattle.table.specs.Numbers.{grade_number}
 use Rattle.table.specs.Place.{contents_of}
 use Rattle.table.specs.Reading.{fault}
-use Rattle.planner.specs.declared.outcome.Outcome.{Outcome}
-use Rattle.planner.specs.declared.outcome.Outcome.TheVariants.{Accepted, Refused, NoBytes}
+use Rattle.planner.specs.declared.rejection.Rejection.{Rejection}
+use Rattle.planner.specs.declared.rejection.Rejection.TheVariants.{Refused, NoBytes}
 use Rattle.planner.specs.declared.summary.Summary.{Summary}
 use Rattle.planner.specs.Listed.{BytesOf, FirstBad}
 
@@ -20,13 +20,13 @@ pub record SumsUp (bs : List ℕ) (s : Summary) : Type 0 where
   pub same_is : s.same ≡ true
 
 -- the bytes bs are a table and are summed up, or are none and their fault is told
-abbrev pub Judged : List ℕ → Outcome → Type 0
-Judged bs (Accepted s) = (fault bs ≡ None) × SumsUp bs s
-Judged bs (Refused size f advice) = (fault bs ≡ Some f) × (size ≡ length bs)
-Judged bs (NoBytes bad) = ⊥
+abbrev pub Judged : List ℕ → Result Summary Rejection → Type 0
+Judged bs (Ok s) = (fault bs ≡ None) × SumsUp bs s
+Judged bs (Err (Refused size f advice)) = (fault bs ≡ Some f) × (size ≡ length bs)
+Judged bs (Err (NoBytes bad)) = ⊥
 
 -- the line lists bytes, which are judged, or its first bad word is told
-abbrev pub Became : List ℕ → Outcome → Type 0
-Became line (Accepted s) = (bs : List ℕ) × BytesOf line bs × Judged bs (Accepted s)
-Became line (Refused size f advice) = (bs : List ℕ) × BytesOf line bs × Judged bs (Refused size f advice)
-Became line (NoBytes bad) = FirstBad line bad
+abbrev pub Became : List ℕ → Result Summary Rejection → Type 0
+Became line (Ok s) = (bs : List ℕ) × BytesOf line bs × Judged bs (Ok s)
+Became line (Err (Refused size f advice)) = (bs : List ℕ) × BytesOf line bs × Judged bs (Err (Refused size f advice))
+Became line (Err (NoBytes bad)) = FirstBad line bad

@@ -1,8 +1,7 @@
 -- What a line lists.
-use Rattle.std.specs.Prelude.{◌≡◌, ℕ, ◌+◌, List, [], ◌∷◌, ◌++◌, length, Ok, Err, vec_items, string_bytes}
+use Rattle.std.specs.Prelude.{◌≡◌, ℕ, ◌+◌, List, [], ◌∷◌, ◌++◌, length, Ok, Err, Result, Vec, vec_items, string_bytes}
+use Rattle.std.specs.declared.alloc.Global.{Global}
 use Rattle.planner.specs.declared.listing.BadWord.{BadWord}
-use Rattle.planner.specs.declared.listing.Listing.{Listing}
-use Rattle.planner.specs.declared.listing.Listing.TheVariants.{Bytes, NoBytes}
 use Rattle.planner.specs.Numerals.{ByteOf}
 use Rattle.planner.specs.Words.{Begins, Words}
 
@@ -28,6 +27,6 @@ pub record FirstBad (line : List ℕ) (bad : BadWord) : Type 0 where
   pub why : ByteOf (string_bytes bad.word) (Err bad.fault)
 
 -- all words of the line write bytes, or bad is the first that does not
-abbrev pub Lists : List ℕ → Listing → Type 0
-Lists line (Bytes v) = BytesOf line (vec_items v)
-Lists line (NoBytes bad) = FirstBad line bad
+abbrev pub Lists : List ℕ → Result (Vec ℕ Global) BadWord → Type 0
+Lists line (Ok v) = BytesOf line (vec_items v)
+Lists line (Err bad) = FirstBad line bad

@@ -1,5 +1,6 @@
-use crate::clash::{Points, most_shared, strangers};
-use crate::place::{Place, Sizes, byte_at};
+use crate::place::Place;
+use crate::points::Points;
+use crate::reading::Reading;
 use std::fmt;
 use table::TableFault;
 
@@ -34,20 +35,20 @@ pub enum Advice {
 }
 
 impl Advice {
-    /// The advice to bytes that were refused with `fault`.
-    pub fn of(bytes: &[u8], fault: TableFault) -> Advice {
+    /// The advice to what was refused with `fault`.
+    pub fn of(reading: Reading<'_>, fault: TableFault) -> Advice {
         match fault {
             TableFault::Short { length } => Advice::Add {
-                next: Place::of(bytes, length),
-                whole: whole(bytes),
+                next: Place::of(reading, length),
+                whole: reading.whole(),
             },
             TableFault::Size { at } | TableFault::Point { at } => Advice::Change {
-                place: Place::of(bytes, at),
-                value: byte_at(bytes, at),
+                place: Place::of(reading, at),
+                value: reading.byte(at),
             },
             TableFault::Tail { at } => Advice::Cut { at },
             TableFault::Pair { block } => {
-                let shared = most_shared(bytes, block);
+                let shared = reading.most_shared(block);
                 Advice::Part {
                     block,
                     earlier: shared.block,
@@ -56,32 +57,21 @@ impl Advice {
             }
             TableFault::Cover { point } => Advice::Join {
                 point,
-                others: Points(strangers(bytes, point)),
+                others: Points(reading.strangers(point)),
             },
         }
     }
 }
 
-// How many bytes the table has by its sizes, where they are all there.
-fn whole(bytes: &[u8]) -> Option<usize> {
-    if bytes.len() < 4 {
-        return None;
-    }
-    Some(Sizes::of(bytes).bytes())
-}
-
 impl fmt::Display for Advice {
     fn fmt<W: fmt::Write>(&self, f: &mut fmt::Formatter<W>) -> fmt::Result {
         match *self {
-            Advice::Add { next, whole: None } => write!(f, "the bytes end too early: {next}"),
-            Advice::Add {
-                next,
-                whole: Some(whole),
-            } => {
-                write!(
-                    f,
-                    "the bytes end too early: {next}; a table of these sizes has {whole} bytes"
-                )
+            Advice::Add { next, whole } => {
+                write!(f, "the bytes end too early: {next}")?;
+                match whole {
+                    Some(whole) => write!(f, "; a table of these sizes has {whole} bytes"),
+                    None => Ok(()),
+                }
             }
             Advice::Change { place, value } => write!(f, "{place}; here it is {value}"),
             Advice::Cut { at } => write!(

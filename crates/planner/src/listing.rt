@@ -16,9 +16,11 @@ pub struct BadWord {
 
 impl fmt::Display for BadWord {
     fn fmt<W: fmt::Write>(&self, f: &mut fmt::Formatter<W>) -> fmt::Result {
-        let number = self.number;
-        let word = self.word.as_str();
-        let fault = self.fault;
+        let BadWord {
+            number,
+            word,
+            fault,
+        } = self;
         write!(
             f,
             "word {number}, {word:?}, is not a number from 0 to 255: {fault}"
@@ -26,34 +28,25 @@ impl fmt::Display for BadWord {
     }
 }
 
-/// What a line lists.
-#[derive(Drop)]
-pub enum Listing {
-    Bytes(Vec<u8>),
-    NoBytes(BadWord),
-}
-
-impl Listing {
-    /// The words of `line` as bytes, or the first that is none. White space stands between words and may stand around
-    /// them, so a carriage return at the end does no harm; a line with no word lists no bytes.
-    pub fn of(heap: Global, line: &str) -> Result<Listing, AllocError>
-        ensures { IfOk result (Lists line.now) }
-    {
-        let mut bytes = Vec::new(heap);
-        for word in line.split_whitespace() {
-            match byte_of(word) {
-                Ok(byte) => bytes.push(byte)?,
-                Err(fault) => {
-                    let number = bytes.len() + 1;
-                    let word = String::from_str(heap, word)?;
-                    return Ok(Listing::NoBytes(BadWord {
-                        number,
-                        word,
-                        fault,
-                    }));
-                }
+/// The words of `line` as bytes, or the first that is none. White space stands between words and may stand around
+/// them, so a carriage return at the end does no harm; a line with no word lists no bytes.
+pub fn bytes_of(heap: Global, line: &str) -> Result<Result<Vec<u8>, BadWord>, AllocError>
+    ensures { IfOk result (Lists line.now) }
+{
+    let mut bytes = Vec::new(heap);
+    for word in line.split_whitespace() {
+        match byte_of(word) {
+            Ok(byte) => bytes.push(byte)?,
+            Err(fault) => {
+                let number = bytes.len() + 1;
+                let word = String::from_str(heap, word)?;
+                return Ok(Err(BadWord {
+                    number,
+                    word,
+                    fault,
+                }));
             }
         }
-        Ok(Listing::Bytes(bytes))
     }
+    Ok(Ok(bytes))
 }

@@ -3,15 +3,17 @@
 #![tactic(auto)]
 
 mod advice;
-mod clash;
+mod line;
 mod listing;
-mod outcome;
 mod place;
+mod points;
+mod reading;
+mod rejection;
 mod summary;
 mod tally;
 mod word;
 
-use outcome::Outcome;
+use line::judge;
 use std::io;
 use std::io::{BufRead, BufReader};
 use tally::Tally;
@@ -20,10 +22,13 @@ fn main(rt: HostRuntime) -> io::Result<()> {
     let heap = rt.alloc();
     let mut tally = Tally::new();
     for line in BufReader::new(heap, rt.stdin())?.split(heap, b'\n') {
-        let outcome = Outcome::of(heap, line?.as_slice())?;
-        tally.count(&outcome);
+        let became = judge(heap, &line?)?;
+        tally.count(&became);
         let number = tally.lines();
-        println!(rt; "line {number}: {outcome}")?;
+        match became {
+            Ok(summary) => println!(rt; "line {number}: {summary}")?,
+            Err(rejection) => println!(rt; "line {number}: {rejection}")?,
+        }
     }
     println!(rt; "{tally}")
 }

@@ -1,54 +1,7 @@
-ghost use Rattle.std.specs.Prelude.{◌≡◌, ◌+◌, ◌*◌, slice_index};
 ghost use Rattle.planner.specs.Fields.{Stands};
 
+use crate::reading::{Reading, Sizes};
 use std::fmt;
-
-/// The sizes at the front of a table's bytes, 0 for one that is not there.
-#[derive(Clone, Copy)]
-pub struct Sizes {
-    pub v: u8,
-    pub n: u8,
-    pub k: u8,
-}
-
-/// Byte `at`, or 0 past the end.
-pub fn byte_at(bytes: &[u8], at: usize) -> u8
-    ensures { result ≡ slice_index bytes.now at }
-{
-    match bytes.get(at) {
-        Some(byte) => *byte,
-        None => 0,
-    }
-}
-
-impl Sizes {
-    /// The sizes of what begins with `bytes`.
-    pub fn of(bytes: &[u8]) -> Sizes
-        ensures v { result.v ≡ slice_index bytes.now 1 }
-        ensures n { result.n ≡ slice_index bytes.now 2 }
-        ensures k { result.k ≡ slice_index bytes.now 3 }
-    {
-        Sizes {
-            v: byte_at(bytes, 1),
-            n: byte_at(bytes, 2),
-            k: byte_at(bytes, 3),
-        }
-    }
-
-    // How many points the blocks have, all together.
-    fn points(self) -> usize
-        ensures { result ≡ self.n * self.k }
-    {
-        self.n as usize * self.k as usize
-    }
-
-    /// How many bytes a table of these sizes has.
-    pub fn bytes(self) -> usize
-        ensures { result ≡ 7 + self.n * self.k }
-    {
-        7 + self.n as usize * self.k as usize
-    }
-}
 
 /// What a byte of a table stands for.
 #[derive(Clone, Copy)]
@@ -69,7 +22,7 @@ impl Field {
     pub fn at(sizes: Sizes, at: usize) -> Field
         ensures { Stands sizes at result }
     {
-        let k = sizes.k as usize;
+        let k = usize::from(sizes.k);
         let points = sizes.points();
         match at {
             0 => Field::SizesCount,
@@ -77,7 +30,7 @@ impl Field {
             2 => Field::RecordUnits,
             3 => Field::BlockSize,
             4 => Field::BlocksCount,
-            _ if k > 0 && at - 5 < points => Field::Point {
+            _ if at - 5 < points => Field::Point {
                 block: (at - 5) / k,
                 index: (at - 5) % k,
             },
@@ -116,14 +69,14 @@ pub struct Place {
 }
 
 impl Place {
-    /// Byte `at` of what begins with `bytes`.
-    pub fn of(bytes: &[u8], at: usize) -> Place {
-        let sizes = Sizes::of(bytes);
+    /// Byte `at` of what is read.
+    pub fn of(reading: Reading<'_>, at: usize) -> Place {
+        let sizes = reading.sizes();
         Place {
             at,
             field: Field::at(sizes, at),
             sizes,
-            before: byte_at(bytes, at.saturating_sub(1)),
+            before: reading.byte(at.saturating_sub(1)),
         }
     }
 
@@ -162,8 +115,7 @@ impl Place {
 
 impl fmt::Display for Place {
     fn fmt<W: fmt::Write>(&self, f: &mut fmt::Formatter<W>) -> fmt::Result {
-        let at = self.at;
-        let field = self.field;
+        let Place { at, field, .. } = *self;
         write!(f, "byte {at} is {field}, which must be ")?;
         self.wanted(f)
     }

@@ -22,8 +22,7 @@ impl Share {
 
 impl fmt::Display for Share {
     fn fmt<W: fmt::Write>(&self, f: &mut fmt::Formatter<W>) -> fmt::Result {
-        let check = self.check;
-        let all = self.all;
+        let Share { check, all } = *self;
         let tenths = self.tenths();
         let whole = tenths / 10;
         let tenth = tenths % 10;
@@ -78,24 +77,27 @@ fn writes(table: &Table, bytes: &[u8]) -> bool
     requires { Accepted bytes.now table.now }
     ensures { result ≡ true }
 {
+    // `Table::write` allocates nothing and fills what it is given; so much is always enough.
     let mut out = [0; MAX_BYTES];
-    match table.write(&mut out) {
-        Ok(size) => &out[0..size] == bytes,
-        Err(_) => false,
+    table
+        .write(&mut out)
+        .is_ok_and(|size| &out[..size] == bytes)
+}
+
+// What a grade promises of the blocks.
+fn of_blocks(grade: Grade) -> &'static str {
+    match grade {
+        Grade::Packing => "two blocks share at most one point",
+        Grade::Steiner =>
+            "two blocks share at most one point, and every two points lie together in a block",
     }
 }
 
-// What a grade promises of the blocks, and what the load says in it.
-fn promises(grade: Grade) -> (&'static str, &'static str) {
+// What the load says in a grade.
+fn of_load(grade: Grade) -> &'static str {
     match grade {
-        Grade::Packing => (
-            "two blocks share at most one point",
-            "grade 1 does not fix how many record units stand behind a check unit",
-        ),
-        Grade::Steiner => (
-            "two blocks share at most one point, and every two points lie together in a block",
-            "so many record units stand behind each check unit",
-        ),
+        Grade::Packing => "grade 1 does not fix how many record units stand behind a check unit",
+        Grade::Steiner => "so many record units stand behind each check unit",
     }
 }
 
@@ -111,7 +113,8 @@ impl fmt::Display for Summary {
             same,
         } = *self;
         let number = grade.number();
-        let (of_blocks, of_load) = promises(grade);
+        let of_blocks = of_blocks(grade);
+        let of_load = of_load(grade);
         let share = self.share();
         let back = if same {
             "the same bytes"

@@ -1,11 +1,12 @@
 ghost use Rattle.std.specs.Prelude.{◌≡◌};
 ghost use Rattle.planner.specs.Tallied.{none, counted};
 
-use crate::outcome::Outcome;
+use crate::rejection::Rejection;
+use crate::summary::Summary;
 use std::fmt;
 
 /// How many lines came, and what became of them.
-#[derive(Clone, Copy)]
+#[derive(Clone, Copy, Default)]
 pub struct Tally {
     lines: u64,
     accepted: u64,
@@ -18,23 +19,18 @@ impl Tally {
     pub fn new() -> Tally
         ensures { result ≡ none }
     {
-        Tally {
-            lines: 0,
-            accepted: 0,
-            refused: 0,
-            no_bytes: 0,
-        }
+        Tally::default()
     }
 
-    /// Counts a line with its outcome.
-    pub fn count(&mut self, outcome: &Outcome)
-        ensures { self.new ≡ counted outcome.now self.old }
+    /// Counts a line with what became of it.
+    pub fn count(&mut self, became: &Result<Summary, Rejection>)
+        ensures { self.new ≡ counted became.now self.old }
     {
         self.lines = self.lines.saturating_add(1);
-        match outcome {
-            Outcome::Accepted(_) => self.accepted = self.accepted.saturating_add(1),
-            Outcome::Refused { .. } => self.refused = self.refused.saturating_add(1),
-            Outcome::NoBytes(_) => self.no_bytes = self.no_bytes.saturating_add(1),
+        match became {
+            Ok(_) => self.accepted = self.accepted.saturating_add(1),
+            Err(Rejection::Refused { .. }) => self.refused = self.refused.saturating_add(1),
+            Err(Rejection::NoBytes(_)) => self.no_bytes = self.no_bytes.saturating_add(1),
         }
     }
 

@@ -24,12 +24,7 @@ impl fmt::Display for WordFault {
 fn all_digits(text: &[u8]) -> bool
     ensures { Decides result (AllDigits text.now) }
 {
-    for c in text {
-        if !c.is_ascii_digit() {
-            return false;
-        }
-    }
-    true
+    text.iter().all(u8::is_ascii_digit)
 }
 
 /// The byte that a word is in decimal digits. Zeros in front count for nothing: `007` is 7.
@@ -39,8 +34,5 @@ pub fn byte_of(word: &str) -> Result<u8, WordFault>
     if word.is_empty() || !all_digits(word.as_bytes()) {
         return Err(WordFault::NoNumber);
     }
-    match word.parse::<u8>() {
-        Ok(byte) => Ok(byte),
-        Err(_) => Err(WordFault::TooLarge),
-    }
+    word.parse().map_err(|_| WordFault::TooLarge)
 }

@@ -1,7 +1,7 @@
 -- The search for deadly sets, step by step.
-use Rattle.std.proofs.Common.{◌≡◌, ℕ, suc, ◌+◌, ◌<◌, ◌≤◌, Bool, true, false, cond, not, ◌&&◌, ◌||◌, eqb, ltb, ◌⊎◌, Decides, sym, refl, ap, ◌∙◌, subst, inl, inr, ⊎_elim, arith}
+use Rattle.std.proofs.Common.{◌≡◌, ℕ, suc, ◌+◌, ◌<◌, ◌≤◌, Bool, true, false, cond, not, ◌&&◌, ◌||◌, eqb, ltb, leb, ◌⊎◌, Decides, Option, None, Some, is_some, IfSome, sym, refl, ap, ◌∙◌, subst, inl, inr, ⊎_elim, arith}
 use mir.Val.{bool_byte}
-use Rattle.std.proofs.lemmas.Bool.{false≢true, cases_Bool, cases_lt, both_ways, not-true, not_from_false, eq-eqb, ne_eqb, lt-ltb, and_from, and_left, or_right}
+use Rattle.std.proofs.lemmas.Bool.{false≢true, cases_Bool, cases_lt, both_ways, not-true, not_from_false, leb-true, leb-false, eq-eqb, ne_eqb, lt-ltb, and_from, and_left, or_right}
 use Rattle.sets.specs.declared.set.SmallSet.{SmallSet}
 use Rattle.sets.specs.Members.{has}
 use Rattle.sets.specs.Steps.{Empty}
@@ -15,6 +15,7 @@ use Rattle.recovery.specs.Answers.{but, LostRecords}
 use Rattle.recovery.proofs.Meaning.{never_both}
 use Rattle.risk.specs.Deadly.{UnitsOf, Deadly, HowMany}
 use Rattle.risk.specs.Extends.{ClearBelow, Extends, Found}
+use Rattle.risk.specs.RiskOf.{Counted, limit}
 use Rattle.risk.proofs.Lists.{list_none, list_one, list_like, list_both}
 
 -- ---- whether a set is deadly
@@ -155,3 +156,8 @@ found_units t none b more k n empty eb ek h = list_like
     (λ s z. (record { within = λ i m. ⊎_elim (λ l. l) (λ l. absurd (both_ways (has s i) (z.0.above i l ∙ empty i) m)) (cases_lt i (units t)); size = z.0.chosen }, z.1))
     (λ s z. (record { above = λ i l. ⊎_elim (λ m. absurd (omega (arith, z.0.within i m))) (λ m. m ∙ sym (empty i)) (cases_Bool (has s i)); chosen = z.0.size }, z.1))
     (subst (λ u. Found t none u k n) eb (subst (λ j. Found t none b j n) ek h))
+
+-- a count that is made unless there are too many sets
+pub counted : (t : Contents) (sets : ℕ) (r : Option ℕ) → is_some r ≡ leb sets limit → IfSome r (λ m. HowMany (λ s. UnitsOf t (t.k + 1) s × Deadly t s) m) → Counted t sets r
+counted t sets None e h = leb-false sets limit (sym e)
+counted t sets (Some m) e h = (leb-true sets limit (sym e), h)

@@ -37,11 +37,7 @@ impl Risk {
         let units = table.n() + table.v();
         let size = table.k() + 1;
         let sets = choose(units, size);
-        let deadly = if sets > LIMIT {
-            None
-        } else {
-            Some(deadly(layout, SmallSet::empty(), units, size))
-        };
+        let deadly = (sets <= LIMIT).then(|| deadly(layout, SmallSet::empty(), units, size));
         Risk { size, sets, deadly }
     }
 }
