@@ -39,6 +39,6 @@ pub fn table_bytes<const K: usize>(
     let k = u8::try_from(K).unwrap_or(u8::MAX);
     let mut bytes = Vec::from_slice(heap, &[3, v, n, k, n])?;
     bytes.extend_from_slice(blocks.as_flattened())?;
-    bytes.extend_from_slice(&[1, grade.number()])?;
+    bytes.extend_from_slice(&[1, u8::from(grade)])?;
     Ok(bytes)
 }

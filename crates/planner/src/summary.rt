@@ -112,7 +112,7 @@ impl fmt::Display for Summary {
             size,
             same,
         } = *self;
-        let number = grade.number();
+        let number = u8::from(grade);
         let of_blocks = of_blocks(grade);
         let of_load = of_load(grade);
         let share = self.share();

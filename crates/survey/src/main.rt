@@ -45,7 +45,7 @@ fn survey_table(rt: &HostRuntime, name: &str, table: Table) -> io::Result<Tally>
     let v = table.v();
     let n = table.n();
     let k = table.k();
-    let grade = table.grade().number();
+    let grade = u8::from(table.grade());
     let units = trial.units();
     println!(rt; "{name}: v {v}, n {n}, k {k}, grade {grade}, {units} units\n{COLUMNS}")?;
     let tally = survey_sizes(rt, &trial)?;

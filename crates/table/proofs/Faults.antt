@@ -37,9 +37,6 @@ module _ (bs : List ℕ) where
   pub passed_more : (i : ℕ) → Passed bs i → i < length bs → fits bs i ≡ true → Passed bs (i + 1)
   passed_more i p h e = record { there = omega arith; fitting = below_more _ i p.fitting e }
 
-  pub passed_none : Passed bs 0
-  passed_none = record { there = omega arith; fitting = λ j h. absurd (omega arith) }
-
   pub fits_from : (i : ℕ) → i < full bs → lowest bs i ≤ byte bs i → byte bs i ≤ highest bs i → fits bs i ≡ true
   unfolding fits
   fits_from i a b c = and_from (ltb i (full bs)) _ (lt-ltb i (full bs) a) (and_from (leb (lowest bs i) (byte bs i)) (leb (byte bs i) (highest bs i)) (le-leb (lowest bs i) (byte bs i) b) (le-leb (byte bs i) (highest bs i) c))

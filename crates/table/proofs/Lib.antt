@@ -7,10 +7,12 @@ pub mod Formed
 pub mod Clashes
 pub mod Faults
 pub mod Places
+pub mod Readers
 pub mod Points
 pub mod Validity
 pub mod Load
 pub mod Rounds
+pub mod Writes
 pub mod SameTables
 pub mod Rereads
 pub mod Tells

@@ -6,6 +6,7 @@ use Rattle.std.proofs.lemmas.List.{ext_get_or}
 use Rattle.table.specs.declared.grade.Grade.{Grade}
 use Rattle.table.specs.declared.grade.Grade.TheVariants.{Packing, Steiner}
 use Rattle.table.specs.declared.table.Draft.{Draft}
+use Rattle.table.specs.declared.table.Sizes.{Sizes}
 use Rattle.table.specs.declared.table.Table.{Table}
 use Rattle.table.specs.Contents.{Contents}
 use Rattle.table.specs.Reading.{clash}
@@ -22,26 +23,29 @@ same_grade Steiner Steiner e = refl
 same_points : (s t : Draft) → draft_contents s ≡ draft_contents t → s.points ≡ t.points
 same_points s t e = ext_get_or 0 s.points t.points (s.room ∙ sym t.room) (λ i _. ap (λ (p : Contents). p.point i) e)
 
+same_sizes : (s t : Sizes) → s.v ≡ t.v → s.n ≡ t.n → s.k ≡ t.k → s ≡ t
+same_sizes s t pv pn pk = λ i. record {
+  v = pv i;
+  n = pn i;
+  k = pk i;
+  checks = is_prop→PathP (λ j. (2 ≤ pv j) × (pv j ≤ 40)) (λ j. hlevel props) s.checks t.checks i;
+  records = is_prop→PathP (λ j. (1 ≤ pn j) × (pn j + pv j ≤ 64)) (λ j. hlevel props) s.records t.records i;
+  width = is_prop→PathP (λ j. (2 ≤ pk j) × (pk j ≤ 8) × (pk j ≤ pv j)) (λ j. hlevel props) s.width t.width i;
+}
+
 pub same_draft : (s t : Draft) → draft_contents s ≡ draft_contents t → s ≡ t
 same_draft s t e =
-    let pv : s.v ≡ t.v = ap (λ (p : Contents). p.v) e in
-    let pn : s.n ≡ t.n = ap (λ (p : Contents). p.n) e in
-    let pk : s.k ≡ t.k = ap (λ (p : Contents). p.k) e in
+    let ps : s.sizes ≡ t.sizes = same_sizes s.sizes t.sizes (ap (λ (p : Contents). p.v) e) (ap (λ (p : Contents). p.n) e) (ap (λ (p : Contents). p.k) e) in
     let pg : s.grade ≡ t.grade = same_grade s.grade t.grade (ap (λ (p : Contents). p.grade) e) in
     let pp : s.points ≡ t.points = same_points s t e in
     λ i. record {
-      v = pv i;
-      n = pn i;
-      k = pk i;
+      sizes = ps i;
       grade = pg i;
       points = pp i;
       room = is_prop→PathP (λ j. length (pp j) ≡ 496) (λ j. hlevel props) s.room t.room i;
-      checks = is_prop→PathP (λ j. (2 ≤ pv j) × (pv j ≤ 40)) (λ j. hlevel props) s.checks t.checks i;
-      records = is_prop→PathP (λ j. (1 ≤ pn j) × (pn j + pv j ≤ 64)) (λ j. hlevel props) s.records t.records i;
-      width = is_prop→PathP (λ j. (2 ≤ pk j) × (pk j ≤ 8) × (pk j ≤ pv j)) (λ j. hlevel props) s.width t.width i;
-      high = is_prop→PathP (λ j. High (pv j) (pp j)) (λ j. hlevel props) s.high t.high i;
-      ascends = is_prop→PathP (λ j. Ascends (pn j * pk j) (pk j) (pp j)) (λ j. hlevel props) s.ascends t.ascends i;
-      blank = is_prop→PathP (λ j. Blank (pn j * pk j) (pp j)) (λ j. hlevel props) s.blank t.blank i;
+      high = is_prop→PathP (λ j. High (ps j).v (pp j)) (λ j. hlevel props) s.high t.high i;
+      ascends = is_prop→PathP (λ j. Ascends ((ps j).n * (ps j).k) (ps j).k (pp j)) (λ j. hlevel props) s.ascends t.ascends i;
+      blank = is_prop→PathP (λ j. Blank ((ps j).n * (ps j).k) (pp j)) (λ j. hlevel props) s.blank t.blank i;
     }
 
 pub same_table : (s t : Table) → contents s ≡ contents t → s ≡ t

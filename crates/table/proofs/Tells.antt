@@ -11,12 +11,6 @@ use Rattle.table.specs.Refusals.{Wrong, Whole, Apart, Clashing, Uncovered, Told}
 use Rattle.table.proofs.Ranges.{every_below, every_where, some_at, some_where, first_most, first_end, first_fails}
 use Rattle.table.proofs.Faults.{past_not}
 
-same_fault : (f g : TableFault) → Some f ≡ Some g → f ≡ g
-same_fault f g e = cc
-
-not_none : {X : Type 0} (f : TableFault) → ◌≡◌ {A = Option TableFault} None (Some f) → X
-not_none f e = let z : ◌≡◌ {A = ℕ} 0 1 = cc in absurd (omega arith)
-
 module _ (t : Contents) where
   apart_below : (m : ℕ) → every (apart t) m ≡ true → Apart t m
   unfolding apart
@@ -84,16 +78,16 @@ module _ (bs : List ℕ) where
       let rest : Option TableFault = cond test (Some (Cover p)) None in
       ⊎_elim
       (λ (l : d < t.n).
-      let q = same_fault (Pair d) f (sym (cond-true (ltb d t.n) (Some (Pair d)) rest (lt-ltb d t.n l)) ∙ e) in
+      let q : Pair d ≡ f = cc (cond-true (ltb d t.n) (Some (Pair d)) rest (lt-ltb d t.n l)) in
       subst (Told bs) q (whole, pair_told t l))
       (λ (l : t.n ≤ d).
       let r : rest ≡ Some f = sym (cond-false (ltb d t.n) (Some (Pair d)) rest (le-ltb d t.n l)) ∙ e in
       ⊎_elim
       (λ (g : test ≡ true).
       let h = and_parts (eqb t.grade 2) (ltb p t.v) g in
-      let q = same_fault (Cover p) f (sym (cond-true test (Some (Cover p)) None g) ∙ r) in
+      let q : Cover p ≡ f = cc (cond-true test (Some (Cover p)) None g) in
       subst (Told bs) q (whole, apart_below t t.n (first_end (apart t) t.n l), cover_told t (eqb-true t.grade 2 h.0) (ltb-true p t.v h.1)))
-      (λ (g : test ≡ false). not_none f (sym (cond-false test (Some (Cover p)) None g) ∙ r))
+      (λ (g : test ≡ false). cc (cond-false test (Some (Cover p)) None g))
       (cases_Bool test))
       (cases_lt d t.n)
 
@@ -117,7 +111,7 @@ module _ (bs : List ℕ) where
       ⊎_elim
       (λ (l : i < length bs).
       let w = first_fails (fits bs) (length bs) l in
-      let q = same_fault (misfit bs i) f (sym (cond-true (ltb i (length bs)) (Some (misfit bs i)) rest (lt-ltb i (length bs) l)) ∙ e) in
+      let q : misfit bs i ≡ f = cc (cond-true (ltb i (length bs)) (Some (misfit bs i)) rest (lt-ltb i (length bs) l)) in
       subst (Told bs) q (wrong_told i (record { there = l; wrong = w.0; before = every_below (fits bs) i w.1 })))
       (λ (l : length bs ≤ i).
       let all = first_end (fits bs) (length bs) l in
@@ -125,7 +119,7 @@ module _ (bs : List ℕ) where
       let r : rest ≡ Some f = sym (cond-false (ltb i (length bs)) (Some (misfit bs i)) rest (le-ltb i (length bs) l)) ∙ e in
       ⊎_elim
       (λ (g : i < full bs).
-      let q = same_fault (Short i) f (sym (cond-true (ltb i (full bs)) (Some (Short i)) (clash (contents_of bs)) (lt-ltb i (full bs) g)) ∙ r) in
+      let q : Short i ≡ f = cc (cond-true (ltb i (full bs)) (Some (Short i)) (clash (contents_of bs)) (lt-ltb i (full bs) g)) in
       subst (Told bs) q (same, g, record { there = omega arith; fitting = λ j h. every_below (fits bs) (length bs) all j (omega arith) }))
       (λ (g : full bs ≤ i). clash_told f (whole_so all (omega arith)) (sym (cond-false (ltb i (full bs)) (Some (Short i)) (clash (contents_of bs)) (le-ltb i (full bs) g)) ∙ r))
       (cases_lt i (full bs)))

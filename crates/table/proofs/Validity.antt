@@ -2,6 +2,7 @@
 use Rattle.std.proofs.Common.{◌≡◌, ℕ, zero, suc, ◌+◌, ◌*◌, ◌%◌, ◌<◌, ◌≤◌, true, false, ◌&&◌, ◌||◌, leb, is_some, sym, refl, ap, subst, inl, inr, ⊎_elim, arith}
 use mathlib.Core.Bool.{and_comm}
 use Rattle.std.proofs.lemmas.Bool.{cases_lt, cases_order, leb-true, lt-leb, and_parts, or_cases, both_ways}
+use Rattle.std.proofs.lemmas.Nat.{mod-mul-add}
 use Rattle.sets.specs.Sums.{count}
 use Rattle.sets.proofs.Sums.{count_same}
 use Rattle.table.specs.Ranges.{every, first}
@@ -10,7 +11,7 @@ use Rattle.table.specs.Reading.{apart, together, joined, clash}
 use Rattle.table.proofs.Ranges.{every_below, some_where, first_end, first_all}
 use Rattle.table.proofs.Clashes.{clash_pair, clash_cover}
 use Rattle.table.proofs.Counts.{count_ascending}
-use Rattle.table.proofs.Sizes.{place_below, place_mod}
+use Rattle.table.proofs.Sizes.{place_below}
 use Rattle.table.proofs.Blocks.{within}
 use Rattle.table.proofs.Formed.{Formed, formed}
 use Rattle.table.specs.declared.table.Table.{Table}
@@ -24,7 +25,7 @@ module _ (t : Contents) (f : Formed t) where
   step d j a b =
       let i = d * t.k + j in
       let e : suc i ≡ d * t.k + suc j = omega arith in
-      let m = place_mod d t.k (suc j) b in
+      let m = mod-mul-add d t.k (suc j) b in
       subst (λ x. t.point i < t.point x) e (f.ascends i (omega (arith, place_below d t.n t.k (suc j) a b), λ z. let y = ap (λ x. x % t.k) e in omega arith))
 
   climb : (d i j : ℕ) → d < t.n → i < j → j < t.k → t.point (d * t.k + i) < t.point (d * t.k + j)

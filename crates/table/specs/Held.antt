@@ -5,7 +5,7 @@ use Rattle.table.specs.Contents.{Contents}
 use Rattle.table.specs.Parts.{from_parts}
 
 abbrev pub draft_contents : Draft → Contents
-draft_contents t = from_parts t.v t.n t.k t.grade t.points
+draft_contents t = from_parts t.sizes.v t.sizes.n t.sizes.k t.grade t.points
 
 -- what the table t says
 abbrev pub contents : Table → Contents

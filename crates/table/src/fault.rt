@@ -1,5 +1,7 @@
-ghost use Rattle.std.specs.Prelude.{◌≡◌};
-ghost use Rattle.table.specs.Numbers.{number_of, place_of, narrow_number};
+ghost use Rattle.std.specs.Prelude.{◌≡◌, Some};
+ghost use Rattle.table.specs.Numbers.{number_of, place_of, fault_text, narrow_number, narrow_text};
+
+use std::fmt;
 
 /// Why bytes are no table. Each case has its place.
 #[derive(Clone, Copy, PartialEq, Eq, Debug)]
@@ -46,6 +48,25 @@ impl TableFault {
     }
 }
 
+// As in `SHORT, number 1, place 12`.
+impl fmt::Display for TableFault {
+    ghost output = { λ f. Some (fault_text f) };
+
+    fn fmt<W: fmt::Write>(&self, f: &mut fmt::Formatter<W>) -> fmt::Result {
+        let name = match self {
+            TableFault::Short { .. } => "SHORT",
+            TableFault::Size { .. } => "SIZE",
+            TableFault::Point { .. } => "POINT",
+            TableFault::Tail { .. } => "TAIL",
+            TableFault::Pair { .. } => "PAIR",
+            TableFault::Cover { .. } => "COVER",
+        };
+        let number = self.number();
+        let place = self.place();
+        write!(f, "{name}, number {number}, place {place}")
+    }
+}
+
 /// The output is too short for the table.
 #[derive(Clone, Copy, PartialEq, Eq, Debug)]
 pub struct Narrow;
@@ -56,5 +77,15 @@ impl Narrow {
         ensures { result ≡ narrow_number }
     {
         21
+    }
+}
+
+// The name, then the number.
+impl fmt::Display for Narrow {
+    ghost output = { λ _. Some narrow_text };
+
+    fn fmt<W: fmt::Write>(&self, f: &mut fmt::Formatter<W>) -> fmt::Result {
+        let number = self.number();
+        write!(f, "NARROW, number {number}")
     }
 }

@@ -1,5 +1,5 @@
 ghost use Rattle.std.specs.Prelude.{◌≡◌};
-ghost use Rattle.table.specs.Numbers.{grade_number};
+ghost use Rattle.table.specs.Numbers.{grade_number, Grades};
 
 /// How much a table promises of its blocks.
 #[derive(Clone, Copy, PartialEq, Eq, Debug)]
@@ -10,14 +10,32 @@ pub enum Grade {
     Steiner,
 }
 
-impl Grade {
-    /// The grade as tables have it in their bytes: 1 or 2.
-    pub fn number(self) -> u8
-        ensures { result ≡ grade_number self }
-    {
-        match self {
+/// A number that is no grade's.
+#[derive(Clone, Copy, PartialEq, Eq, Debug)]
+pub struct NoGrade;
+
+// The grade as tables have it in their bytes: 1 or 2.
+impl From<Grade> for u8 {
+    ghost from_gives = { λ grade number. number ≡ grade_number grade };
+
+    fn from(grade: Grade) -> u8 {
+        match grade {
             Grade::Packing => 1,
             Grade::Steiner => 2,
+        }
+    }
+}
+
+impl TryFrom<u8> for Grade {
+    type Error = NoGrade;
+
+    ghost try_from_gives = { Grades };
+
+    fn try_from(number: u8) -> Result<Grade, NoGrade> {
+        match number {
+            1 => Ok(Grade::Packing),
+            2 => Ok(Grade::Steiner),
+            _ => Err(NoGrade),
         }
     }
 }

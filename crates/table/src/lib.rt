@@ -9,6 +9,6 @@ mod tests;
 mod worked;
 
 pub use fault::{Narrow, TableFault};
-pub use grade::Grade;
+pub use grade::{Grade, NoGrade};
 pub use table::{MAX_BYTES, Table};
 pub use worked::table_d;

@@ -1,6 +1,7 @@
 ghost use Rattle.std.specs.Prelude.{◌≡◌, ◌+◌, ◌*◌, ◌≤◌, false, length, is_some};
 ghost use Rattle.table.specs.Parts.{from_parts, High, Ascends, Blank};
 ghost use Rattle.table.specs.Reading.{clash};
+ghost use Rattle.table.specs.Refusals.{Passed};
 
 use crate::grade::Grade;
 
@@ -21,24 +22,39 @@ struct Sizes {
     v: u8,
     n: u8,
     k: u8,
+    ghost checks: { (2 ≤ v) × (v ≤ 40) },
+    ghost records: { (1 ≤ n) × (n + v ≤ 64) },
+    ghost width: { (2 ≤ k) × (k ≤ 8) × (k ≤ v) },
+}
+
+impl Sizes {
+    // How many points the blocks have together.
+    fn points(self) -> usize
+        ensures { result ≡ self.n * self.k }
+    {
+        self.n as usize * self.k as usize
+    }
+}
+
+/// Takes a table's bytes one after the other. Those before `at` are there and are what they must be.
+#[derive(Drop)]
+struct Reader<'a> {
+    bytes: &'a [u8],
+    at: usize,
+    ghost passed: { Passed bytes.now at },
 }
 
 /// A table whose bytes are right one by one; its blocks may still clash.
 #[derive(Clone, Copy)]
 struct Draft {
-    v: u8,
-    n: u8,
-    k: u8,
+    sizes: Sizes,
     grade: Grade,
     // The points of all blocks, one block after the other, and 0 from there on: equal contents are equal drafts.
     points: [u8; POINTS],
     ghost room: { length points ≡ 496 },
-    ghost checks: { (2 ≤ v) × (v ≤ 40) },
-    ghost records: { (1 ≤ n) × (n + v ≤ 64) },
-    ghost width: { (2 ≤ k) × (k ≤ 8) × (k ≤ v) },
-    ghost high: { High v points },
-    ghost ascends: { Ascends (n * k) k points },
-    ghost blank: { Blank (n * k) points },
+    ghost high: { High sizes.v points },
+    ghost ascends: { Ascends (sizes.n * sizes.k) sizes.k points },
+    ghost blank: { Blank (sizes.n * sizes.k) points },
 }
 
 /// A unit table: v check units and n record units, each record unit with a block of k points. Record unit d is
@@ -46,5 +62,5 @@ struct Draft {
 #[derive(Clone, Copy)]
 pub struct Table {
     draft: Draft,
-    ghost sound: { is_some (clash (from_parts draft.v draft.n draft.k draft.grade draft.points)) ≡ false },
+    ghost sound: { is_some (clash (from_parts draft.sizes.v draft.sizes.n draft.sizes.k draft.grade draft.points)) ≡ false },
 }

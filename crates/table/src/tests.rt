@@ -1,4 +1,4 @@
-use crate::{Narrow, Table, TableFault, table_d};
+use crate::{Grade, Narrow, NoGrade, Table, TableFault, table_d};
 use std::test::Fail;
 
 // The fault of D with byte `at` set to `byte`.
@@ -7,10 +7,7 @@ fn damaged(at: usize, byte: u8) -> Option<TableFault> {
     if at < 13 {
         bytes[at] = byte;
     }
-    match Table::read(&bytes) {
-        Ok(_) => None,
-        Err(fault) => Some(fault),
-    }
+    Table::read(&bytes).err()
 }
 
 #[test]
@@ -46,16 +43,31 @@ fn each_byte_at_and_past_its_edges(rt: HostRuntime) {
 #[test]
 fn a_table_comes_back(rt: HostRuntime) -> Result<(), Fail> {
     let mut out = [7; 15];
-    match Table::read(&table_d()) {
-        Ok(table) => {
-            assert_eq!(rt; table.load(), 2);
-            assert_eq!(rt; table.write(&mut out[0..12]), Err(Narrow));
-            assert_eq!(rt; out, [7; 15]);
-            assert_eq!(rt; table.write(&mut out), Ok(13));
-            assert_eq!(rt; out, [3, 3, 3, 2, 3, 0, 1, 0, 2, 1, 2, 1, 2, 7, 7]);
-            assert!(rt; table.block_has(2, 1) && !table.block_has(2, 0) && !table.block_has(3, 1));
-            Ok(())
-        }
-        Err(_) => Err(Fail::new("D is refused")),
-    }
+    let table = Table::read(&table_d())?;
+    assert_eq!(rt; table.load(), 2);
+    assert_eq!(rt; table.write(&mut out[0..12]), Err(Narrow));
+    assert_eq!(rt; out, [7; 15]);
+    assert_eq!(rt; table.write(&mut out), Ok(13));
+    assert_eq!(rt; out, [3, 3, 3, 2, 3, 0, 1, 0, 2, 1, 2, 1, 2, 7, 7]);
+    assert!(rt; table.block_has(2, 1) && !table.block_has(2, 0) && !table.block_has(3, 1));
+    Ok(())
+}
+
+#[test]
+fn grades_have_numbers(rt: HostRuntime) {
+    assert_eq!(rt; u8::from(Grade::Packing), 1);
+    assert_eq!(rt; Grade::try_from(2), Ok(Grade::Steiner));
+    assert_eq!(rt; Grade::try_from(3), Err(NoGrade));
+}
+
+#[test]
+fn refusals_print_themselves(rt: HostRuntime) -> Result<(), Fail> {
+    let short = TableFault::Short { length: 12 };
+    let narrow = Narrow;
+    let text = format!(in rt.alloc(); "{short}; {narrow}")?;
+    assert_eq!(rt;
+        text.as_str(),
+        "SHORT, number 1, place 12; NARROW, number 21"
+    );
+    Ok(())
 }

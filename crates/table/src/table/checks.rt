@@ -1,5 +1,7 @@
-ghost use Rattle.std.specs.Prelude.{◌≡◌, ◌<◌};
+ghost use Rattle.std.specs.Prelude.{◌≡◌, ◌<◌, nat_le};
+ghost use Rattle.std.specs.Result.{result_err};
 ghost use Rattle.table.specs.Ranges.{FirstFailing};
+ghost use Rattle.table.specs.Contents.{shared};
 ghost use Rattle.table.specs.Reading.{apart, together, joined, clash};
 ghost use Rattle.table.specs.Held.{draft_contents};
 ghost use Rattle.table.specs.Answers.{PointsOf};
@@ -12,94 +14,78 @@ use sets::SmallSet;
 impl Draft {
     // The points of block `d`.
     pub(super) fn block(&self, d: usize) -> SmallSet
-        requires { d < self.now.n }
+        requires { d < self.now.sizes.n }
         ensures { PointsOf (draft_contents self.now) d result }
     {
-        let k = self.k as usize;
-        let mut block = SmallSet::empty();
-        for j in 0..k {
-            block = block.with(self.points[d * k + j] as usize);
-        }
-        block
+        let k = self.sizes.k as usize;
+        let points = &self.points[d * k..(d + 1) * k];
+        points.iter().fold(
+            SmallSet::empty(),
+            |block, &point| block.with(point as usize),
+        )
+    }
+
+    // Whether the blocks `d` and `e` share at most one point.
+    fn pair_apart(&self, d: usize, e: usize) -> bool
+        requires first { d < self.now.sizes.n }
+        requires second { e < self.now.sizes.n }
+        ensures { result ≡ nat_le (shared (draft_contents self.now) d e) 1 }
+    {
+        self.block(d).intersection(self.block(e)).len() <= 1
     }
 
     // Whether block `d` shares at most one point with each block before it.
     fn apart(&self, d: usize) -> bool
-        requires { d < self.now.n }
+        requires { d < self.now.sizes.n }
         ensures { result ≡ apart (draft_contents self.now) d }
     {
-        let block = self.block(d);
-        for e in 0..d {
-            if block.intersection(self.block(e)).len() > 1 {
-                return false;
-            }
-        }
-        true
+        (0..d).all(|e| self.pair_apart(d, e))
     }
 
     // The first block that shares two points with an earlier one.
     fn first_pair(&self) -> Option<usize>
-        ensures { FirstFailing (apart (draft_contents self.now)) self.now.n result }
+        ensures { FirstFailing (apart (draft_contents self.now)) self.now.sizes.n result }
     {
-        for d in 0..self.n as usize {
-            if !self.apart(d) {
-                return Some(d);
-            }
-        }
-        None
+        (0..self.sizes.n as usize).find(|&d| !self.apart(d))
     }
 
     // Whether `p` and `q` lie together in a block.
     fn together(&self, p: usize, q: usize) -> bool
         ensures { result ≡ together (draft_contents self.now) p q }
     {
-        for d in 0..self.n as usize {
+        (0..self.sizes.n as usize).any(|d| {
             let block = self.block(d);
-            if block.contains(p) && block.contains(q) {
-                return true;
-            }
-        }
-        false
+            block.contains(p) && block.contains(q)
+        })
     }
 
     // Whether `p` lies together with each point above it.
     fn joined(&self, p: usize) -> bool
-        requires { p < self.now.v }
+        requires { p < self.now.sizes.v }
         ensures { result ≡ joined (draft_contents self.now) p }
     {
-        for q in p + 1..self.v as usize {
-            if !self.together(p, q) {
-                return false;
-            }
-        }
-        true
+        (p + 1..self.sizes.v as usize).all(|q| self.together(p, q))
     }
 
     // The lower point of the first two that lie in no block together.
     fn first_loose(&self) -> Option<usize>
-        ensures { FirstFailing (joined (draft_contents self.now)) self.now.v result }
+        ensures { FirstFailing (joined (draft_contents self.now)) self.now.sizes.v result }
     {
-        for p in 0..self.v as usize {
-            if !self.joined(p) {
-                return Some(p);
-            }
-        }
-        None
+        (0..self.sizes.v as usize).find(|&p| !self.joined(p))
     }
 
-    // What is wrong with the blocks together, if anything is.
-    pub(super) fn clash(&self) -> Option<TableFault>
-        ensures { result ≡ clash (draft_contents self.now) }
+    // Sees that the blocks fit together.
+    pub(super) fn sound(&self) -> Result<(), TableFault>
+        ensures { result_err result ≡ clash (draft_contents self.now) }
     {
-        if let Some(d) = self.first_pair() {
-            return Some(TableFault::Pair { block: d });
+        if let Some(block) = self.first_pair() {
+            return Err(TableFault::Pair { block });
         }
         match self.grade {
-            Grade::Packing => None,
-            Grade::Steiner => match self.first_loose() {
-                Some(p) => Some(TableFault::Cover { point: p }),
-                None => None,
-            },
+            Grade::Packing => Ok(()),
+            Grade::Steiner => self
+                .first_loose()
+                .map_or(Ok(()), |point| Err(TableFault::Cover { point })),
         }
     }
 }

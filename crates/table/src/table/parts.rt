@@ -13,21 +13,21 @@ impl Table {
     pub fn v(&self) -> usize
         ensures { result ≡ (contents self.now).v }
     {
-        self.draft.v as usize
+        self.draft.sizes.v as usize
     }
 
     /// How many record units there are.
     pub fn n(&self) -> usize
         ensures { result ≡ (contents self.now).n }
     {
-        self.draft.n as usize
+        self.draft.sizes.n as usize
     }
 
     /// How many points a block has.
     pub fn k(&self) -> usize
         ensures { result ≡ (contents self.now).k }
     {
-        self.draft.k as usize
+        self.draft.sizes.k as usize
     }
 
     /// What the table promises of its blocks.
@@ -41,20 +41,14 @@ impl Table {
     pub fn block(&self, d: usize) -> Option<SmallSet>
         ensures { BlockOf (contents self.now) d result }
     {
-        if d >= self.n() {
-            return None;
-        }
-        Some(self.draft.block(d))
+        (d < self.n()).then(|| self.draft.block(d))
     }
 
     /// Whether there is a record unit `d` and its block has `point`.
     pub fn block_has(&self, d: usize, point: usize) -> bool
         ensures { result ≡ (nat_lt d (contents self.now).n && has_point (contents self.now) d point) }
     {
-        match self.block(d) {
-            Some(block) => block.contains(point),
-            None => false,
-        }
+        self.block(d).is_some_and(|block| block.contains(point))
     }
 
     /// In grade 2, how many record units stand behind each check unit; in grade 1, 0.

@@ -1,113 +1,116 @@
-ghost use Rattle.std.specs.Prelude.{◌≡◌, ◌+◌, ◌*◌, ◌<◌, length, Some, MatchResult};
-ghost use Rattle.table.specs.Place.{byte, full};
-ghost use Rattle.table.specs.Reading.{fault};
-ghost use Rattle.table.specs.Refusals.{Passed};
+ghost use Rattle.std.specs.Prelude.{◌≡◌, ◌+◌, ◌*◌, ◌<◌, length, MatchResult};
+ghost use Rattle.table.specs.Place.{full};
 ghost use Rattle.table.specs.Answers.{Read, OneAnswer};
-ghost use Rattle.table.specs.Stages.{Asked, Got, Sized, Filled, Spelt};
-ghost use Rattle.table.specs.Numbers.{grade_number};
+ghost use Rattle.table.specs.Stages.{Refuses, Asked, Next, Got, SizesOf, Sized, PointsRead, Graded, Spelt};
 
-use super::{Draft, POINTS, Sizes, Table};
+use super::{Draft, POINTS, Reader, Sizes, Table};
 use crate::fault::TableFault;
 use crate::grade::Grade;
-
-// The bytes that a table is read from.
-#[derive(Clone, Copy)]
-struct Reader<'a> {
-    bytes: &'a [u8],
-}
+use std::ops::RangeInclusive;
 
 impl Reader<'_> {
-    // The byte at `at`, which must be from `low` to `high`.
-    fn within(self, at: usize, low: u8, high: u8, wrong: TableFault) -> Result<u8, TableFault>
-        requires { Asked self.bytes.now at low high wrong }
-        ensures { MatchResult result (λ b. Got self.entry.bytes.now at low high b) (λ f. fault self.entry.bytes.now ≡ Some f) }
+    // The next byte, which is not taken yet.
+    fn peek(&self) -> Result<u8, TableFault>
+        requires { self.now.at < full self.now.bytes.now }
+        ensures { MatchResult result (Next self.now) (Refuses self.now.bytes.now) }
     {
-        if at >= self.bytes.len() {
-            return Err(TableFault::Short { length: at });
-        }
-        let byte = self.bytes[at];
-        if byte < low || byte > high {
+        self.bytes
+            .get(self.at)
+            .copied()
+            .ok_or(TableFault::Short { length: self.at })
+    }
+
+    // Takes the next byte, which must be one of `values`.
+    fn take(&mut self, values: RangeInclusive<u8>, wrong: TableFault) -> Result<u8, TableFault>
+        requires { Asked self.old values wrong }
+        ensures { MatchResult result (Got self.old self.new values) (Refuses self.old.bytes.now) }
+    {
+        let byte = self.peek()?;
+        if !values.contains(&byte) {
             return Err(wrong);
         }
+        self.at += 1;
         Ok(byte)
     }
 
-    fn size(self, at: usize, low: u8, high: u8) -> Result<u8, TableFault>
-        requires { Asked self.bytes.now at low high (TableFault.Size at) }
-        ensures { MatchResult result (λ b. Got self.entry.bytes.now at low high b) (λ f. fault self.entry.bytes.now ≡ Some f) }
+    fn size(&mut self, values: RangeInclusive<u8>) -> Result<u8, TableFault>
+        requires { Asked self.old values (TableFault.Size self.old.at) }
+        ensures { MatchResult result (Got self.old self.new values) (Refuses self.old.bytes.now) }
     {
-        self.within(at, low, high, TableFault::Size { at })
+        let at = self.at;
+        self.take(values, TableFault::Size { at })
     }
 
     // The section of sizes, and the count of the blocks.
-    fn sizes(self) -> Result<Sizes, TableFault>
-        ensures { MatchResult result (λ s. Sized self.entry.bytes.now s × Passed self.entry.bytes.now 5) (λ f. fault self.entry.bytes.now ≡ Some f) }
+    fn sizes(&mut self) -> Result<Sizes, TableFault>
+        requires { self.old.at ≡ 0 }
+        ensures { MatchResult result (Sized self.old self.new) (Refuses self.old.bytes.now) }
     {
-        self.size(0, 3, 3)?;
-        let v = self.size(1, 2, 40)?;
-        let n = self.size(2, 1, (64 - v).min(62))?;
-        let k = self.size(3, 2, v.min(8))?;
-        self.size(4, n, n)?;
+        self.size(3..=3)?;
+        let v = self.size(2..=40)?;
+        let n = self.size(1..=(64 - v).min(62))?;
+        let k = self.size(2..=v.min(8))?;
+        self.size(n..=n)?;
         Ok(Sizes { v, n, k })
     }
 
     // The points of all blocks.
-    fn points(self, sizes: Sizes) -> Result<[u8; POINTS], TableFault>
-        requires sized { Sized self.bytes.now sizes }
-        requires passed { Passed self.bytes.now 5 }
-        ensures { MatchResult result (λ ps. Filled self.entry.bytes.now (sizes.n * sizes.k) ps × Passed self.entry.bytes.now (5 + sizes.n * sizes.k) × (length ps ≡ 496)) (λ f. fault self.entry.bytes.now ≡ Some f) }
+    fn points(&mut self, sizes: Sizes) -> Result<[u8; POINTS], TableFault>
+        requires place { self.old.at ≡ 5 }
+        requires sizes { SizesOf self.old.bytes.now sizes }
+        ensures { MatchResult result (PointsRead self.old self.new (sizes.n * sizes.k)) (Refuses self.old.bytes.now) }
     {
         let k = sizes.k as usize;
         let mut points = [0; POINTS];
-        for i in 0..sizes.n as usize * k {
-            let low = if i % k == 0 { 0 } else { points[i - 1] + 1 };
-            points[i] = self.within(5 + i, low, sizes.v - 1, TableFault::Point { at: 5 + i })?;
+        let mut low = 0;
+        for (i, point) in points[..sizes.points()].iter_mut().enumerate() {
+            if i % k == 0 {
+                low = 0;
+            }
+            let at = self.at;
+            *point = self.take(low..=sizes.v - 1, TableFault::Point { at })?;
+            low = *point + 1;
         }
         Ok(points)
     }
 
-    // The section of the grade, which begins at `at`.
-    fn grade(self, at: usize) -> Result<Grade, TableFault>
-        requires place { at + 2 ≡ full self.bytes.now }
-        requires passed { Passed self.bytes.now at }
-        requires small { at < 1000 }
-        ensures { MatchResult result (λ g. (grade_number g ≡ byte self.entry.bytes.now (at + 1)) × Passed self.entry.bytes.now (at + 2)) (λ f. fault self.entry.bytes.now ≡ Some f) }
+    // The section of the grade.
+    fn grade(&mut self) -> Result<Grade, TableFault>
+        requires { self.old.at + 2 ≡ full self.old.bytes.now }
+        ensures { MatchResult result (Graded self.old self.new) (Refuses self.old.bytes.now) }
     {
-        self.size(at, 1, 1)?;
-        let grade = self.size(at + 1, 1, 2)?;
-        Ok(if grade == 1 {
-            Grade::Packing
-        } else {
-            Grade::Steiner
-        })
+        self.size(1..=1)?;
+        let number = self.peek()?;
+        let at = self.at;
+        let grade = Grade::try_from(number).map_err(|_| TableFault::Size { at })?;
+        self.at += 1;
+        Ok(grade)
     }
 
-    // Sees that no byte follows the table, which ends at `end`.
-    fn end(self, end: usize) -> Result<(), TableFault>
-        requires place { end ≡ full self.bytes.now }
-        requires passed { Passed self.bytes.now end }
-        ensures { MatchResult result (λ _. length self.entry.bytes.now ≡ end) (λ f. fault self.entry.bytes.now ≡ Some f) }
+    // Sees that no byte follows the table.
+    fn end(&self) -> Result<(), TableFault>
+        requires { self.now.at ≡ full self.now.bytes.now }
+        ensures { MatchResult result (λ _. length self.now.bytes.now ≡ self.now.at) (Refuses self.now.bytes.now) }
     {
-        if self.bytes.len() > end {
-            return Err(TableFault::Tail { at: end });
+        if self.bytes.len() > self.at {
+            return Err(TableFault::Tail { at: self.at });
         }
         Ok(())
     }
+}
 
+impl Draft {
     // The table that the bytes spell, whose blocks may still clash.
-    fn draft(self) -> Result<Draft, TableFault>
-        ensures { MatchResult result (λ t. Spelt self.entry.bytes.now t) (λ f. fault self.entry.bytes.now ≡ Some f) }
+    fn read(bytes: &[u8]) -> Result<Draft, TableFault>
+        ensures { MatchResult result (Spelt bytes.now) (Refuses bytes.now) }
     {
-        let sizes = self.sizes()?;
-        let points = self.points(sizes)?;
-        let at = 5 + sizes.n as usize * sizes.k as usize;
-        let grade = self.grade(at)?;
-        self.end(at + 2)?;
-        let Sizes { v, n, k } = sizes;
+        let mut reader = Reader { bytes, at: 0 };
+        let sizes = reader.sizes()?;
+        let points = reader.points(sizes)?;
+        let grade = reader.grade()?;
+        reader.end()?;
         Ok(Draft {
-            v,
-            n,
-            k,
+            sizes,
             grade,
             points,
         })
@@ -120,10 +123,8 @@ impl Table {
         ensures answer { Read bytes.now result }
         ensures one { OneAnswer bytes.now result }
     {
-        let draft = Reader { bytes }.draft()?;
-        match draft.clash() {
-            Some(fault) => Err(fault),
-            None => Ok(Table { draft }),
-        }
+        let draft = Draft::read(bytes)?;
+        draft.sound()?;
+        Ok(Table { draft })
     }
 }

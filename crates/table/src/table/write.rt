@@ -1,9 +1,9 @@
-ghost use Rattle.std.specs.Prelude.{◌≡◌, ◌<◌};
-ghost use Rattle.table.specs.Contents.{byte_of, size};
+ghost use Rattle.std.specs.Prelude.{◌≡◌};
+ghost use Rattle.table.specs.Contents.{size};
 ghost use Rattle.table.specs.Held.{contents};
 ghost use Rattle.table.specs.Answers.{Wrote};
 
-use super::Table;
+use super::{Sizes, Table};
 use crate::fault::Narrow;
 
 impl Table {
@@ -11,24 +11,7 @@ impl Table {
     fn size(&self) -> usize
         ensures { result ≡ size (contents self.now) }
     {
-        7 + self.draft.n as usize * self.draft.k as usize
-    }
-
-    // Byte `at` of the table.
-    fn byte(&self, at: usize) -> u8
-        requires { at < size (contents self.now) }
-        ensures { result ≡ byte_of (contents self.now) at }
-    {
-        let points = self.draft.n as usize * self.draft.k as usize;
-        match at {
-            0 => 3,
-            1 => self.draft.v,
-            2 | 4 => self.draft.n,
-            3 => self.draft.k,
-            _ if at < 5 + points => self.draft.points[at - 5],
-            _ if at == 5 + points => 1,
-            _ => self.draft.grade.number(),
-        }
+        7 + self.draft.sizes.points()
     }
 
     /// Writes the table's bytes to the front of `out`, and says how many.
@@ -39,9 +22,12 @@ impl Table {
         if out.len() < size {
             return Err(Narrow);
         }
-        for at in 0..size {
-            out[at] = self.byte(at);
-        }
+        let Sizes { v, n, k } = self.draft.sizes;
+        let points = self.draft.sizes.points();
+        let grade = u8::from(self.draft.grade);
+        out[..5].copy_from_slice(&[3, v, n, k, n]);
+        out[5..5 + points].copy_from_slice(&self.draft.points[..points]);
+        out[5 + points..size].copy_from_slice(&[1, grade]);
         Ok(size)
     }
 }

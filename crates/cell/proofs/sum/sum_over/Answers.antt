@@ -1,5 +1,4 @@
-use Rattle.std.proofs.Common.{◌≡◌, ℕ, ◌≤◌, List, length, get_or, sym, ap, ◌∙◌, ap₂}
-use Rattle.std.proofs.lemmas.List.{get_or_past}
+use Rattle.std.proofs.Common.{◌≡◌, ℕ, List, get_or, sym, ap, ◌∙◌, ap₂}
 use Rattle.sets.specs.declared.set.SmallSet.{SmallSet}
 use Rattle.sets.specs.Members.{has}
 use Rattle.sets.specs.Steps.{Empty, Least, Without}
@@ -15,9 +14,6 @@ over o plus xs s = total o plus 64 (has s) (λ i. get_or xs i o)
 
 -- x is the sum so far, and s the places that are still to come
 module _ {C : Type 0} (o : C) (plus : C → C → C) (l : Laws o plus) (xs : List C) (x : C) (s : SmallSet) where
-  begun : x ≡ o → plus x (over o plus xs s) ≡ over o plus xs s
-  begun e = ap (λ y. plus y (over o plus xs s)) e ∙ l.unit (over o plus xs s)
-
   -- the least place b comes and leaves the places t; with its cell v the sum is y
   taken : (t : SmallSet) (b : ℕ) (v y : C) → Least s b → Without s b t → v ≡ get_or xs b o → y ≡ plus x v → plus y (over o plus xs t) ≡ plus x (over o plus xs s)
   taken t b v y least without read e = ap (λ z. plus z (over o plus xs t)) e ∙ l.assoc x v (over o plus xs t) ∙ ap (plus x) whole
@@ -27,21 +23,12 @@ module _ {C : Type 0} (o : C) (plus : C → C → C) (l : Laws o plus) (xs : Lis
           ap₂ plus read (total_alike o plus l 64 (has t) _ (λ i. get_or xs i o) (λ i _. without i))
           ∙ sym (total_split o plus l 64 b (has s) (λ i. get_or xs i o) least.small least.member)
 
-  -- the least place b is past the end
-  passed : (t : SmallSet) (b : ℕ) → Least s b → Without s b t → length xs ≤ b → plus x (over o plus xs t) ≡ plus x (over o plus xs s)
-  passed t b least without h = taken t b o x least without (sym (get_or_past xs b o h)) (sym (unit_r o plus (adds l) x))
-
   -- no place is left of the places t
   ended : (t : SmallSet) → Empty s → plus x (over o plus xs s) ≡ over o plus xs t → x ≡ over o plus xs t
   ended t none inv = sym (ap (plus x) nothing ∙ unit_r o plus (adds l) x) ∙ inv
     where
       nothing : over o plus xs s ≡ o
       nothing = total_none o plus l 64 (has s) (λ i. get_or xs i o) (λ i _. none i)
-
-pub loop-place-init : goal.loop-place-init
-loop-place-init g c =
-    let k = g.C.Cell in
-    begun k.zero k.sum k.laws c.args.cells.now c.zero_cell-sum.result c.into_iter-place-iterator.result c.zero_cell-sum.ensures
 
 pub loop-place-preserved-in-Some-get : goal.loop-place-preserved-in-Some-get
 loop-place-preserved-in-Some-get g c =
@@ -50,14 +37,6 @@ loop-place-preserved-in-Some-get g c =
     let step = c.in-Some.ensures.steps in
     let read = c.in-Some-get.ensures.lookup.3.1 k.zero in
     taken k.zero k.sum k.laws c.args.cells.now c.loop-place.sum rest c.next.new.self _ _ _ step.0 step.1 read c.plus-sum.ensures ∙ c.loop-place.invariant
-
-pub loop-place-preserved : goal.loop-place-preserved
-loop-place-preserved g c =
-    let k = g.C.Cell in
-    let rest = c.loop-place.place-iterator in
-    let step = c.in-Some.ensures.steps in
-    let past = c.in_default.ensures.lookup.3 in
-    passed k.zero k.sum k.laws c.args.cells.now c.loop-place.sum rest c.next.new.self _ step.0 step.1 past ∙ c.loop-place.invariant
 
 pub returns : goal.returns
 returns g c =

@@ -1,16 +1,8 @@
-use Rattle.std.proofs.Common.{◌≡◌, length, sym, ap, ◌∙◌, subst}
+use Rattle.std.proofs.Common.{length, sym, ap, ◌∙◌, subst}
 use Rattle.sets.specs.Parity.{oddly}
 use Rattle.recovery.specs.Rows.{Balanced, Leads}
-use Rattle.recovery.proofs.Balancing.{balance_starts, balance_stays, balance_adds, least_leads, shares_one, all_left, turn}
+use Rattle.recovery.proofs.Balancing.{balance_stays, balance_adds, least_leads, shares_one, turn}
 use Rattle.recovery.proofs.rows.balance.Goals as goal
-
-pub loop-pivot-init : goal.loop-pivot-init
-loop-pivot-init c =
-    let all : c.into_iter-pivot-iterator.result.iter.rest.now ≡ c.args.pivots.now = cc in
-    record {
-      left = all_left _ _ all;
-      balanced = subst (λ n. Balanced c.args.asked c.args.pivots.now (length c.args.pivots.now) c.args.unit n c.of-set.result) (sym (ap length all)) (balance_starts _ _ _ _ c.of-set.result c.requires.unit.0 c.of-set.ensures);
-    }
 
 pub loop-pivot-preserved : goal.loop-pivot-preserved
 loop-pivot-preserved c =

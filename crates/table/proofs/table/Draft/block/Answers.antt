@@ -1,29 +1,33 @@
-use Rattle.std.proofs.Common.{ℕ, ◌+◌, ◌*◌, ◌||◌, eqb, get_or, sym, ap, ◌∙◌, ap₂, arith}
-use Rattle.table.specs.Ranges.{some}
+use Rattle.std.proofs.Common.{◌≡◌, ℕ, ◌+◌, ◌*◌, ◌&&◌, ◌||◌, List, [], ◌∷◌, ◌++◌, eqb, ltb, sym, ap, ◌∙◌, arith, rules}
+use Rattle.std.specs.List.{list_any, between}
+use Rattle.std.proofs.lemmas.Fn.{fold_over, slice_gives, fronts}
+use Rattle.std.proofs.lemmas.List.Folds.{list_any-append}
+use mathlib.Core.Bool.{or-false}
+use Rattle.sets.specs.declared.set.SmallSet.{SmallSet}
+use Rattle.sets.specs.Members.{has}
 use Rattle.table.specs.Contents.{has_point}
-use Rattle.sets.proofs.Bits.{eq_below}
-use Rattle.table.proofs.Ranges.{some_step, some_none}
-use Rattle.table.proofs.Sizes.{place_below, few_points}
+use Rattle.table.proofs.Sizes.{few_points}
 use Rattle.table.proofs.Formed.{limits_of}
+use Rattle.table.proofs.Blocks.{in_block}
 use Rattle.table.proofs.table.Draft.block.Goals as goal
 
-pub bounds-self-d : goal.bounds-self-d
-bounds-self-d c =
-    let t = c.args.self.now in
-    omega (arith, place_below c.args.d t.n t.k c.loop-j.j c.requires c.loop-j-test.true, few_points (limits_of t))
+-- a has those of ys that are below 64
+Gathers : List ℕ → SmallSet → Type 0
+Gathers ys a = (p : ℕ) → has a p ≡ list_any (λ x. eqb p x && ltb p 64) ys
 
-pub loop-j-init : goal.loop-j-init
-loop-j-init c p = c.empty-block.ensures p ∙ sym (some_none _)
-
-pub loop-j-preserved : goal.loop-j-preserved
-loop-j-preserved c p =
-    let t = c.args.self.now in
-    let at : ℕ → ℕ = λ j. get_or t.points (c.args.d * t.k + j) 0 in
-    let small = eq_below p (at c.loop-j.j) 64 (omega (arith, t.high (c.args.d * t.k + c.loop-j.j), t.checks.1)) in
-    c.with-block.ensures p ∙ ap₂ ◌||◌ (c.loop-j.invariant p) (sym small) ∙ sym (some_step (λ j. eqb p (at j)) c.loop-j.j)
+more : (ys : List ℕ) (x : ℕ) (a b : SmallSet) → Gathers ys a → ((i : ℕ) → has b i ≡ (has a i || (eqb i x && ltb i 64))) → Gathers (ys ++ x ∷ []) b
+unfolding Gathers
+more ys x a b g e p =
+    e p ∙ ap (λ z. z || (eqb p x && ltb p 64)) (g p) ∙ ap (λ z. list_any (λ x. eqb p x && ltb p 64) ys || z) (sym (or-false (eqb p x && ltb p 64)))
+    ∙ sym (list_any-append (λ x. eqb p x && ltb p 64) ys (x ∷ []))
 
 pub returns : goal.returns
-unfolding has_point
+unfolding has_point Gathers
 returns c p =
     let t = c.args.self.now in
-    c.loop-j.invariant p ∙ ap (some (λ j. eqb p (get_or t.points (c.args.d * t.k + j) 0))) (omega arith)
+    let k = t.sizes.k in
+    let ys = c.iter.result.rest.now in
+    let e : ys ≡ between (c.args.d * k) ((c.args.d + 1) * k) t.points = search rules in
+    fold_over fronts (λ y. y.now) _ Gathers _ (λ ys a x b f' j k. let e : (i : ℕ) → has b i ≡ (has a i || (eqb i x.now && ltb i 64)) = search rules in (more ys x.now a b j e, search rules)) c.iter.result ys _ _ (slice_gives c.iter.result) (λ p. c.empty.ensures p) c.fold.ensures.ran p
+    ∙ ap (list_any (λ x. eqb p x && ltb p 64)) e
+    ∙ in_block t.points t.sizes.v c.args.d t.sizes.n k p t.high (omega (arith, t.sizes.checks)) c.requires (omega (arith, few_points (limits_of t.sizes), t.room))

@@ -1,40 +1,21 @@
-use Rattle.std.proofs.Common.{ℕ, Bool, ◌||◌, leb, sym, ap, ◌∙◌, arith}
-use Rattle.std.proofs.lemmas.Bool.{or_left, or_right, or_from, le-leb, lt-leb}
-use Rattle.table.specs.Ranges.{every}
-use Rattle.table.specs.Contents.{Contents}
+use Rattle.std.proofs.Common.{◌+◌, ◌-◌, ◌||◌, leb, refl, ap, ◌∙◌, arith, rules}
+use borrow.Author.Tests.{tests}
+use Rattle.std.proofs.lemmas.Bool.{or_left, le-leb, lt-leb}
+use Rattle.std.proofs.lemmas.Iterator.{YieldsList-from_range}
+use Rattle.std.proofs.lemmas.Iterator.Search.{all_from_yields_List}
 use Rattle.table.specs.Reading.{together, joined}
 use Rattle.table.specs.Held.{draft_contents}
-use Rattle.table.proofs.Ranges.{every_from, every_more, every_stop}
+use Rattle.table.proofs.Ranges.{every_range}
 use Rattle.table.proofs.table.Draft.joined.Goals as goal
 
-test : Contents → ℕ → ℕ → Bool
-test t p q = leb q p || together t p q
-
-pub loop-q-init : goal.loop-q-init
-unfolding test
-loop-q-init c =
-    let t = draft_contents c.args.self.now in
-    let p = c.args.p in
-    every_from (test t p) _ (λ q h. or_left (leb q p) (together t p q) (le-leb q p (omega arith)))
-
-pub loop-q-preserved : goal.loop-q-preserved
-unfolding test
-loop-q-preserved c =
-    let t = draft_contents c.args.self.now in
-    let p = c.args.p in
-    let q = c.loop-q.q in
-    every_more (test t p) q c.loop-q.invariant (or_right (leb q p) (together t p q) (sym c.if-not-together.ensures))
-
-pub returns-then-not-together : goal.returns-then-not-together
-unfolding test joined
-returns-then-not-together c =
-    let t = draft_contents c.args.self.now in
-    let p = c.args.p in
-    let q = c.loop-q.q in
-    sym (every_stop (test t p) t.v q c.loop-q-test.true (or_from (leb q p) (together t p q) (lt-leb q p (omega arith)) (sym c.if-not-together.ensures)))
-
 pub returns : goal.returns
-unfolding test joined
+unfolding joined
 returns c =
     let t = draft_contents c.args.self.now in
-    sym (ap (every (test t c.args.p)) (omega arith) ∙ c.loop-q.invariant)
+    let p = c.args.p in
+    let n = t.v - (p + 1) in
+    all_from_yields_List (together t p) _ _ _ c.all.ensures.ran (YieldsList-from_range (p + 1) t.v n refl refl) (λ x b q k. search (rules, tests))
+    ∙ every_range (together t p) (λ q. leb q p || together t p q) (p + 1) n t.v
+    (λ q h. or_left (leb q p) (together t p q) (le-leb q p (omega arith)))
+    (λ q h. ap (λ z. z || together t p q) (lt-leb q p (omega arith)))
+    (omega arith)
