@@ -1,8 +1,8 @@
 -- Back substitution: one turn of the loop.
 use Rattle.std.proofs.Common.{◌≡◌, ℕ, ◌+◌, ◌<◌, ◌≤◌, true, false, ◌&&◌, ◌||◌, eqb, ltb, List, [], ◌∷◌, ◌++◌, length, take, sym, refl, ap, ◌∙◌, subst, inl, inr, ⊎_elim, arith}
 use mathlib.Core.Bool.{xor, and-true}
-use Rattle.std.proofs.lemmas.Bool.{cases_eq, cases_lt, cases_Bool, both_ways, and_parts, and_from, or_cases, or_left, eqb-true, eq-eqb, lt-ltb}
-use Rattle.std.proofs.lemmas.List.{take_all, take_at, take-take, length-take-le, get_or-take, get_or_at, length-append}
+use Rattle.std.proofs.lemmas.Bool.{cases_eq, cases_lt, cases_Bool, both_ways, and_parts, and_from, or_cases, or_left, eqb-true, lt-ltb}
+use Rattle.std.proofs.lemmas.List.{take_at, take-take, length-take-le, get_or-take, get_or_at, length-append}
 use Rattle.sets.specs.declared.set.SmallSet.{SmallSet}
 use Rattle.sets.specs.Members.{has}
 use Rattle.sets.specs.Parity.{oddly}
@@ -13,13 +13,6 @@ use Rattle.recovery.specs.Rows.{Leads, Pivots, Balanced}
 use Rattle.recovery.proofs.Elimination.{none_past}
 
 module _ (asked : SmallSet) (rows : List SmallSet) (rank unit : ℕ) where
-  pub balance_starts : (s : SmallSet) → unit < 64 → ((i : ℕ) → has s i ≡ (eqb i unit && ltb i 64)) → Balanced asked rows rank unit rank s
-  balance_starts s lt is = record {
-    has_unit = is unit ∙ and_from (eqb unit unit) (ltb unit 64) (eq-eqb unit unit refl) (lt-ltb unit 64 lt);
-    leading = λ u e. inl (eqb-true u unit (and_parts (eqb u unit) (ltb u 64) (sym (is u) ∙ e)).0);
-    even = λ k l m. absurd (omega arith);
-  }
-
   module _ (i j : ℕ) (next : i ≡ j + 1) (s : SmallSet) (h : Balanced asked rows rank unit i s) where
     pub balance_stays : oddly s (at rows j) ≡ false → Balanced asked rows rank unit j s
     balance_stays e = record {
@@ -82,9 +75,6 @@ pub record Turn (pivots left : List SmallSet) (pivot : SmallSet) : Type 0 where
   pub inside : length left < length pivots
   pub here : at pivots (length left) ≡ pivot
   pub then : Left pivots left
-
-pub all_left : (pivots left : List SmallSet) → left ≡ pivots → Left pivots left
-all_left pivots left e = record { few = omega (arith, ap length e); front = e ∙ sym (take_all (length left) pivots (omega (arith, ap length e))) }
 
 -- the last of them comes
 pub turn : (pivots left rest : List SmallSet) (pivot : SmallSet) → Left pivots left → left ≡ rest ++ pivot ∷ [] → (length left ≡ length rest + 1) × Turn pivots rest pivot

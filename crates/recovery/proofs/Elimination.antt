@@ -49,9 +49,6 @@ pub record Clearing (pivot : SmallSet) (u m : ℕ) (before rows : List SmallSet)
   pub wide : length rows ≡ length before
 
 module _ (pivot : SmallSet) (u : ℕ) (before : List SmallSet) where
-  pub clearing_starts : Clearing pivot u 0 before before
-  clearing_starts = record { added = λ k l j. absurd (omega arith); rest = λ k h. refl; wide = refl }
-
   module _ (m : ℕ) (rows : List SmallSet) (h : Clearing pivot u m before rows) where
     abbrev Done : SmallSet → Type 0
     Done s = (j : ℕ) → has s j ≡ xor (has (at before m) j) (has (at before m) u && has pivot j)
@@ -162,33 +159,7 @@ module _ {C : Type 0} (o : C) (plus : C → C → C) (laws : Laws o plus) where
         let pivot : total o plus m (has (at before i)) f ≡ o = ap (λ (s : SmallSet). total o plus m (has s) f) (sym (c.kept i (omega arith))) ∙ code i in
         sym (cleared_alike k pivot) ∙ code k
 
-  pub elimination_starts : (rows : List SmallSet) (asked : SmallSet) → Echelon o plus rows asked asked rows 0
-  elimination_starts rows asked = record {
-    code_to = λ m f c. c;
-    code_from = λ m f c. c;
-    no_more = λ u h. h;
-    wide = refl;
-    pivots = record { ranked = omega arith; leads = λ k l. absurd (omega arith); upper = λ i k u l m h. absurd (omega arith) };
-    of_asked = λ u h. h;
-    clean = λ k u l a b. absurd (both_ways (has asked u) b a);
-  }
-
   module _ (before : List SmallSet) (asked left rest : SmallSet) (rows : List SmallSet) (rank unit : ℕ) (h : Echelon o plus before asked left rows rank) (least : Least left unit) (without : Without left unit rest) where
-    -- no row after the pivots has the unit
-    pub elimination_skips : ((k : ℕ) → rank ≤ k → has (at rows k) unit ≡ false) → Echelon o plus before asked rest rows rank
-    elimination_skips none = record {
-      code_to = h.code_to;
-      code_from = h.code_from;
-      no_more = h.no_more;
-      wide = h.wide;
-      pivots = h.pivots;
-      of_asked = λ u e. h.of_asked u (left_of left rest unit without u e);
-      clean = λ k u l a b. ⊎_elim
-          (λ e. ap (has (at rows k)) e ∙ none k l)
-          (λ ne. h.clean k u l a (out_before left rest unit without u ne b))
-          (cases_eq u unit);
-    }
-
     -- a row that has the unit becomes the next pivot, and the unit leaves the rows after it
     module _ (place : ℕ) (after : rank ≤ place) (room : place < length rows) (in_row : has (at rows place) unit ≡ true) (moved cleared : List SmallSet) (x : Exchanged rank place rows moved) (c : Cleared rank unit moved cleared) where
       pivot_is : at cleared rank ≡ at rows place

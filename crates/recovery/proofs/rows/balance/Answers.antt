@@ -1,6 +1,6 @@
 use Rattle.std.proofs.Common.{length, sym, ap, ◌∙◌, subst}
 use Rattle.sets.specs.Parity.{oddly}
-use Rattle.recovery.specs.Rows.{Balanced, Leads}
+use Rattle.recovery.specs.Rows.{Leads}
 use Rattle.recovery.proofs.Balancing.{balance_stays, balance_adds, least_leads, shares_one, turn}
 use Rattle.recovery.proofs.rows.balance.Goals as goal
 
@@ -31,6 +31,3 @@ loop-pivot-preserved-in_default c =
     let t = turn c.args.pivots.now c.loop-pivot.pivot-iterator.iter.rest.now _ _ c.loop-pivot.invariant.left c.in-Some.ensures.steps in
     let lead = c.requires.shape.leads _ t.1.inside in
     absurd (shares_one c.args.asked c.in-Some.pivot.now c.intersection.result lead.0 c.intersection.ensures (subst (λ p. Leads c.args.asked p lead.0) t.1.here lead.1) c.in_default.ensures)
-
-pub returns : goal.returns
-returns c = subst (λ n. Balanced c.args.asked c.args.pivots.now (length c.args.pivots.now) c.args.unit n c.loop-pivot.set) c.in-None.ensures.steps.0 c.loop-pivot.invariant.balanced

@@ -1,11 +1,8 @@
 use Rattle.std.proofs.Common.{◌∙◌, sym, subst, arith}
 use Rattle.std.proofs.lemmas.List.{places, set-get_or}
-use Rattle.recovery.proofs.Elimination.{Clearing, clearing_starts, clearing_keeps, clearing_adds, cleared}
+use Rattle.recovery.proofs.Elimination.{Clearing, clearing_keeps, clearing_adds, cleared}
 use Rattle.recovery.proofs.rows.clear.Goals as goal
 use Rattle.recovery.proofs.rows.clear.Goals.{then-contains, else-contains}
-
-pub loop-other-init : goal.loop-other-init
-loop-other-init c = clearing_starts _ c.args.unit _
 
 pub loop-other-preserved : goal.loop-other-preserved
 loop-other-preserved c = elim c.if-contains.branch [

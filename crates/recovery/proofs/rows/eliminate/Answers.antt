@@ -2,11 +2,8 @@ use Rattle.std.proofs.Common.{◌≡◌, ◌∙◌, subst}
 use Rattle.sets.specs.declared.set.SmallSet.{SmallSet}
 use Rattle.recovery.specs.Groups.{no_units}
 use Rattle.recovery.specs.Rows.{Echelon}
-use Rattle.recovery.proofs.Elimination.{elimination_starts, elimination_skips, elimination_adds, elimination_ends}
+use Rattle.recovery.proofs.Elimination.{elimination_adds, elimination_ends}
 use Rattle.recovery.proofs.rows.eliminate.Goals as goal
-
-pub loop-unit-init : goal.loop-unit-init
-loop-unit-init g c = let k = g.C.Cell in elimination_starts k.zero k.sum k.laws c.args.rows.now c.into_iter-unit-iterator.result
 
 pub loop-unit-preserved-in-Some-row_with : goal.loop-unit-preserved-in-Some-row_with
 loop-unit-preserved-in-Some-row_with g c =
@@ -19,13 +16,6 @@ loop-unit-preserved-in-Some-row_with g c =
     c.in-Some-row_with.place found.0 found.1 found.2 c.swap.new.self c.clear.new.rows
     (record { at_a = moved.0 no_units; at_b = moved.1 no_units; others = λ j p q. moved.2 j no_units p q; wide = c.swap.ensures.len })
     c.clear.ensures
-
-pub loop-unit-preserved : goal.loop-unit-preserved
-loop-unit-preserved g c =
-    let k = g.C.Cell in
-    let step = c.in-Some.ensures.steps in
-    elimination_skips k.zero k.sum k.laws c.args.rows.now c.into_iter-unit-iterator.result c.loop-unit.unit-iterator c.next.new.self
-    c.loop-unit.rows c.loop-unit.rank c.in-Some.unit c.loop-unit.invariant step.0 step.1 c.in_default.ensures
 
 pub returns : goal.returns
 returns g c =
