@@ -20,7 +20,7 @@ pub trait Cell: Copy {
     fn plus(self, other: Self) -> Self
         ensures { result ≡ sum self other };
 
-    /// Whether two cells are equal.
+    /// Whether two cells are equal. A method, since a derived `==` promises no more than that of its fields.
     fn same(&self, other: &Self) -> bool
         ensures { Decides result (self.now ≡ other.now) };
 }

@@ -7,7 +7,7 @@ use std::alloc::{AllocError, AllocFailed, Global};
 use std::collections::BTreeSet;
 use table::{Grade, TableFault};
 
-/// Why bytes are no table; as a number, the number of the refusal.
+/// Why bytes are no table; as a number, the number of the refusal. Its own numbers, to hold those of `TableFault` to.
 #[derive(Clone, Copy)]
 pub enum Kind {
     Short = 1,

@@ -18,7 +18,7 @@ pub const GROUPS: usize = 40;
 pub struct Layout {
     table: Table,
     units: SmallSet,
-    // The group of each point, and the empty set from there on.
+    // The group of each point, and the empty set from there on. An array, since nothing is allocated.
     groups: [SmallSet; GROUPS],
     ghost room: { length groups ≡ 40 },
     ghost all: { AllUnits (contents table) units },

@@ -166,7 +166,8 @@ impl SmallSet {
     }
 }
 
-// Two sets are equal exactly if they have the same members.
+// Two sets are equal exactly if they have the same members, as the contract says; a derived `==` promises no more than
+// that of its fields.
 impl PartialEq for SmallSet {
     ghost eq = { same_word };
 

@@ -1,4 +1,5 @@
-ghost use Rattle.std.specs.Prelude.{◌≤◌};
+ghost use Rattle.std.specs.Prelude.{◌≡◌, ℕ, ◌≤◌, not, ◌&&◌};
+ghost use Rattle.sets.specs.Members.{has};
 
 use crate::rank::rank;
 use recovery::{GROUPS, Unreadable};
@@ -40,7 +41,9 @@ impl Witness {
     }
 
     // The units that are not missing.
-    fn good(&self, missing: SmallSet) -> SmallSet {
+    fn good(&self, missing: SmallSet) -> SmallSet
+        ensures { (i : ℕ) → has result i ≡ (has self.now.units i && not (has missing i)) }
+    {
         self.units.difference(missing)
     }
 

@@ -49,7 +49,8 @@ struct Reader<'a> {
 struct Draft {
     sizes: Sizes,
     grade: Grade,
-    // The points of all blocks, one block after the other, and 0 from there on: equal contents are equal drafts.
+    // The points of all blocks, one block after the other, and 0 from there on: equal contents are equal drafts. An array,
+    // since nothing is allocated.
     points: [u8; POINTS],
     ghost room: { length points ≡ 496 },
     ghost high: { High sizes.v points },
