@@ -1,5 +1,5 @@
 ghost use Rattle.std.specs.Prelude.{◌≡◌};
-ghost use Rattle.planner.specs.Tallied.{none, counted};
+ghost use Rattle.planner.specs.Tallied.{none, more, counted};
 
 use crate::rejection::Rejection;
 use crate::summary::Summary;
@@ -26,11 +26,11 @@ impl Tally {
     pub fn count(&mut self, became: &Result<Summary, Rejection>)
         ensures { self.new ≡ counted became.now self.old }
     {
-        self.lines = self.lines.saturating_add(1);
+        raise(&mut self.lines);
         match became {
-            Ok(_) => self.accepted = self.accepted.saturating_add(1),
-            Err(Rejection::Refused { .. }) => self.refused = self.refused.saturating_add(1),
-            Err(Rejection::NoBytes(_)) => self.no_bytes = self.no_bytes.saturating_add(1),
+            Ok(_) => raise(&mut self.accepted),
+            Err(Rejection::Refused { .. }) => raise(&mut self.refused),
+            Err(Rejection::NoBytes(_)) => raise(&mut self.no_bytes),
         }
     }
 
@@ -40,6 +40,13 @@ impl Tally {
     {
         self.lines
     }
+}
+
+// One more, up to the most that 64 bits hold.
+fn raise(count: &mut u64)
+    ensures { count.new ≡ more count.old }
+{
+    *count = count.saturating_add(1);
 }
 
 impl fmt::Display for Tally {
