@@ -20,7 +20,8 @@ pub trait Cell: Copy {
     fn plus(self, other: Self) -> Self
         ensures { result ≡ sum self other };
 
-    /// Whether two cells are equal. A method, since a derived `==` promises no more than that of its fields.
+    /// Whether two cells are equal. A method, since code over any kind of cells knows of `==` only that it is an
+    /// equivalence.
     fn same(&self, other: &Self) -> bool
         ensures { Decides result (self.now ≡ other.now) };
 }

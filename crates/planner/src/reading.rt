@@ -12,7 +12,7 @@ pub struct Sizes {
 
 impl Sizes {
     /// How many points the blocks have, all together.
-    pub fn points(self) -> usize
+    pub(crate) fn points(self) -> usize
         ensures { result ≡ self.n * self.k }
     {
         usize::from(self.n) * usize::from(self.k)
@@ -61,7 +61,7 @@ impl Reading<'_> {
     }
 
     /// How many bytes the table has by its sizes, where they are all there.
-    pub fn whole(self) -> Option<usize> {
+    pub(crate) fn whole(self) -> Option<usize> {
         (self.bytes.len() > 3).then(|| self.sizes().bytes())
     }
 

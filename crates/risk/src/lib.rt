@@ -42,7 +42,8 @@ impl Risk {
     }
 }
 
-// How many sets of `size` there are among `units`. A loop, since what bounds each product holds from turn to turn.
+// How many sets of `size` there are among `units`. A loop with an invariant, from which it follows that no product is too
+// large.
 fn choose(units: usize, size: usize) -> u64
     requires { (units ≤ 64) × ((size ≤ 9) × (size ≤ units)) }
     ensures { result ≡ choose units size }
@@ -55,7 +56,8 @@ fn choose(units: usize, size: usize) -> u64
 }
 
 // Of the sets that are `missing` with `more` of the units below `below`, how many lose a record. Those whose highest
-// unit below `below` is the same are counted together. A loop, since what bounds the sum holds from turn to turn.
+// unit below `below` is the same are counted together. A loop with an invariant, from which it follows that the sum is not
+// too large.
 fn deadly(layout: &Layout, missing: SmallSet, below: usize, more: usize) -> u64
     requires room { below ≤ 64 }
     requires clear { ClearBelow below missing }

@@ -102,7 +102,9 @@ impl SmallSet {
     pub fn difference(self, other: SmallSet) -> SmallSet
         ensures { (i : ℕ) → has result i ≡ (has self i && not (has other i)) }
     {
-        self.symmetric_difference(self.intersection(other))
+        SmallSet {
+            bits: self.bits & !other.bits,
+        }
     }
 
     /// Whether each member of this set is one of the other.
@@ -166,8 +168,8 @@ impl SmallSet {
     }
 }
 
-// Two sets are equal exactly if they have the same members, as the contract says; a derived `==` promises no more than
-// that of its fields.
+// Two sets are equal exactly if they have the same members: the contract says so, where a derived `==` says that the
+// words are equal.
 impl PartialEq for SmallSet {
     ghost eq = { same_word };
 

@@ -12,8 +12,8 @@ use cell::Cell;
 use sets::SmallSet;
 
 impl Layout {
-    /// How `unit` can be read back where the units of `missing` are missing. Its recipe: good units the sum of whose cells
-    /// is its cell, in every book and for any kind of cells. A good unit is a recipe for itself.
+    /// A recipe for `unit` where the units of `missing` are missing: good units the sum of whose cells is its cell, in
+    /// every book and for any kind of cells. A good unit is a recipe for itself. If there is none, why not.
     pub fn solve<C: Cell>(&self, missing: SmallSet, unit: usize) -> Result<SmallSet, Unreadable>
         ensures { Solved C.Cell.zero C.Cell.sum (laid_out self.now) (but missing) unit result }
     {
