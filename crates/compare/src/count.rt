@@ -22,8 +22,8 @@ pub struct Count {
 }
 
 impl Count {
-    /// Counts one list, which is read in both ways.
-    pub fn of(heap: Global, bytes: &[u8]) -> Result<Count, AllocError> {
+    /// The count of one list of bytes, which is read in both ways.
+    pub(crate) fn of(heap: Global, bytes: &[u8]) -> Result<Count, AllocError> {
         Verdict::of(heap, bytes).map(Count::from)
     }
 
@@ -40,17 +40,17 @@ impl Count {
     }
 }
 
-/// One list.
+/// The count of the one list of bytes that the verdict is on.
 impl From<Verdict> for Count {
     fn from(verdict: Verdict) -> Count {
         let mut count = Count {
             compared: Saturating(1),
-            differ: Saturating(u32::from(!verdict.same)),
+            differ: Saturating(u32::from(!verdict.same())),
             ..Count::default()
         };
         match verdict.plain {
             Ok(checks) => count.held = Held::from(checks),
-            Err(kind) => *count.refused(kind) += 1,
+            Err(refused) => *count.refused(refused.kind) += 1,
         }
         count
     }

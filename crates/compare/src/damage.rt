@@ -1,8 +1,8 @@
 use crate::count::Count;
 use std::alloc::{AllocError, Global};
 
-// The bytes with byte `at` set to `value`.
-fn changed(heap: Global, bytes: &[u8], at: usize, value: u8) -> Result<Count, AllocError> {
+// Counts the bytes with byte `at` set to `value`.
+fn count_changed(heap: Global, bytes: &[u8], at: usize, value: u8) -> Result<Count, AllocError> {
     let mut copy = Vec::from_slice(heap, bytes)?;
     if let Some(byte) = copy.get_mut(at) {
         *byte = value;
@@ -10,31 +10,31 @@ fn changed(heap: Global, bytes: &[u8], at: usize, value: u8) -> Result<Count, Al
     Count::of(heap, copy.as_slice())
 }
 
-/// Each byte set to each value.
+/// Counts the bytes with each byte set to each value in turn.
 pub fn changes(heap: Global, bytes: &[u8]) -> Result<Count, AllocError> {
     (0..bytes.len())
-        .flat_map(|at| (0..=u8::MAX).map(move |value| changed(heap, bytes, at, value)))
+        .flat_map(|at| (0..=u8::MAX).map(move |value| count_changed(heap, bytes, at, value)))
         .sum()
 }
 
-/// Each front of the bytes, from none to all.
+/// Counts each front of the bytes, from none to all.
 pub fn fronts(heap: Global, bytes: &[u8]) -> Result<Count, AllocError> {
     (0..=bytes.len())
         .map(|end| Count::of(heap, &bytes[..end]))
         .sum()
 }
 
-// The bytes with `value` after them.
-fn longer(heap: Global, bytes: &[u8], value: u8) -> Result<Count, AllocError> {
+// Counts the bytes with `value` after them.
+fn count_longer(heap: Global, bytes: &[u8], value: u8) -> Result<Count, AllocError> {
     let mut longer = Vec::from_slice(heap, bytes)?;
     longer.push(value)?;
     Count::of(heap, longer.as_slice())
 }
 
-/// The bytes with one more after them.
+/// Counts the bytes with one more after them, for some values of it.
 pub fn appends(heap: Global, bytes: &[u8]) -> Result<Count, AllocError> {
     [0, 1, 2, 3, u8::MAX]
         .iter()
-        .map(|value| longer(heap, bytes, *value))
+        .map(|value| count_longer(heap, bytes, *value))
         .sum()
 }

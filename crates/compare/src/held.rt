@@ -13,7 +13,7 @@ pub struct Held {
     narrow: Saturating<u32>,
 }
 
-/// One table.
+/// The count of the one table of which this was seen.
 impl From<Checks> for Held {
     fn from(checks: Checks) -> Held {
         Held {

@@ -1,7 +1,7 @@
 use std::alloc::{AllocError, Global};
 
-/// Every two of the points, which ascend, by the lower, then the higher.
-pub fn pairs(heap: Global, points: &[u8]) -> Result<Vec<[u8; 2]>, AllocError> {
+/// All pairs of `points`, each with the lower point first. Where the points ascend, so do the pairs.
+pub(crate) fn pairs(heap: Global, points: &[u8]) -> Result<Vec<[u8; 2]>, AllocError> {
     points
         .iter()
         .flat_map(|&low| {
@@ -13,8 +13,8 @@ pub fn pairs(heap: Global, points: &[u8]) -> Result<Vec<[u8; 2]>, AllocError> {
         .collect(heap)
 }
 
-/// Every two of the points 0 to v - 1.
-pub fn all_pairs(heap: Global, v: u8) -> Result<Vec<[u8; 2]>, AllocError> {
+/// All pairs of the points from 0 to v - 1, in ascending order.
+pub(crate) fn all_pairs(heap: Global, v: u8) -> Result<Vec<[u8; 2]>, AllocError> {
     let points: Vec<u8> = (0..v).collect(heap)?;
     pairs(heap, points.as_slice())
 }

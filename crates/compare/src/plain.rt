@@ -7,7 +7,8 @@ use std::alloc::{AllocError, AllocFailed, Global};
 use std::collections::BTreeSet;
 use table::{Grade, TableFault};
 
-/// Why bytes are no table; as a number, the number of the refusal. Its own numbers, to hold those of `TableFault` to.
+/// Why bytes are no table, with the number of each refusal. The numbers are written down here a second time, so that
+/// those of `TableFault` are compared with them.
 #[derive(Clone, Copy)]
 pub enum Kind {
     Short = 1,
@@ -41,7 +42,7 @@ pub struct Refusal {
 
 impl Refusal {
     /// Whether `fault` has the same number and place.
-    pub fn is(self, fault: TableFault) -> bool {
+    pub(crate) fn is(self, fault: TableFault) -> bool {
         fault.number() == u8::from(self.kind) && fault.place() == self.place
     }
 }
@@ -50,7 +51,7 @@ impl Refusal {
 #[derive(Clone, Copy)]
 pub enum Stop {
     Refused(Refusal),
-    Memory,
+    Memory(AllocError),
 }
 
 impl From<Refusal> for Stop {
@@ -60,14 +61,14 @@ impl From<Refusal> for Stop {
 }
 
 impl From<AllocError> for Stop {
-    fn from(_e: AllocError) -> Stop {
-        Stop::Memory
+    fn from(e: AllocError) -> Stop {
+        Stop::Memory(e)
     }
 }
 
 impl<T: Drop> From<AllocFailed<T>> for Stop {
-    fn from(_e: AllocFailed<T>) -> Stop {
-        Stop::Memory
+    fn from(e: AllocFailed<T>) -> Stop {
+        Stop::Memory(e.into())
     }
 }
 
@@ -87,7 +88,7 @@ struct Cursor<'a> {
 }
 
 impl Cursor<'_> {
-    // The next byte, which `fits` must take; else it is refused for `kind`.
+    // The next byte. A byte for which `fits` is false is refused for `kind`.
     fn take<F: FnOnce(u8) -> bool>(&mut self, kind: Kind, fits: F) -> Result<u8, Refusal>
         requires { F.IsAlwaysCallable fits }
     {

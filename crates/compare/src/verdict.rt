@@ -1,7 +1,7 @@
 ghost use Rattle.std.specs.Prelude.{◌≡◌, ◌&&◌};
 
 use crate::plain::{Kind, Plain, Sizes, Stop};
-use crate::writing::{refuses_short, writes_all, writes_front};
+use crate::writing::Writing;
 use std::alloc::{AllocError, Global};
 use table::{Grade, Table};
 
@@ -18,46 +18,61 @@ pub struct Checks {
     pub narrow: bool,
 }
 
+/// How the plain reader refuses bytes.
+#[derive(Clone, Copy)]
+pub struct Refused {
+    pub kind: Kind,
+    /// The table's own reader gives the same number and place.
+    pub same: bool,
+}
+
 /// What bytes are by the plain reader, and how the table's own reader and writer compare.
 #[derive(Clone, Copy)]
 pub struct Verdict {
-    /// What was seen of the table, or why there is none.
-    pub plain: Result<Checks, Kind>,
-    /// Whether the two say the same.
-    pub same: bool,
+    /// What was seen of the table, or how the bytes are refused.
+    pub plain: Result<Checks, Refused>,
 }
 
 impl Verdict {
     /// Reads `bytes` in both ways.
     pub fn of(heap: Global, bytes: &[u8]) -> Result<Verdict, AllocError> {
         let read = Table::read(bytes);
-        match Plain::read(heap, bytes) {
-            Ok(plain) => {
-                let checks = match read {
-                    Ok(table) => Checks::of(heap, &table, &plain, bytes)?,
-                    Err(_) => Checks::default(),
-                };
-                Ok(Verdict {
-                    plain: Ok(checks),
-                    same: checks.all(),
-                })
-            }
-            Err(Stop::Refused(refusal)) => Ok(Verdict {
-                plain: Err(refusal.kind),
+        let plain = match Plain::read(heap, bytes) {
+            Ok(plain) => Ok(
+                read.as_ref()
+                    .ok()
+                    .map(|table| Writing { heap, table, bytes })
+                    .map(|writing| Checks::of(writing, &plain))
+                    .transpose()?
+                    .unwrap_or_default(),
+            ),
+            Err(Stop::Refused(refusal)) => Err(Refused {
+                kind: refusal.kind,
                 same: read.is_err_and(|fault| refusal.is(fault)),
             }),
-            Err(Stop::Memory) => Err(AllocError),
-        }
+            Err(Stop::Memory(e)) => return Err(e),
+        };
+        Ok(Verdict { plain })
+    }
+
+    /// Whether the two say the same.
+    pub fn same(self) -> bool {
+        self.plain.map_or_else(|refused| refused.same, Checks::all)
     }
 }
 
 impl Checks {
-    fn of(heap: Global, table: &Table, plain: &Plain, bytes: &[u8]) -> Result<Checks, AllocError> {
+    // What is seen of a table that both readers accept.
+    fn of(writing: Writing, plain: &Plain) -> Result<Checks, AllocError> {
+        let both = Both {
+            table: writing.table,
+            plain,
+        };
         Ok(Checks {
-            parts: same_sizes(table, plain) && same_load(table, plain) && same_blocks(table, plain),
-            back: writes_all(heap, table, bytes)?,
-            past: writes_front(heap, table, bytes)?,
-            narrow: refuses_short(heap, table, bytes)?,
+            parts: both.same_sizes() && both.same_load() && both.same_blocks(),
+            back: writing.all()?,
+            past: writing.front()?,
+            narrow: writing.short()?,
         })
     }
 
@@ -68,27 +83,39 @@ impl Checks {
     }
 }
 
-fn same_sizes(table: &Table, plain: &Plain) -> bool {
-    let Sizes { v, n, k } = plain.sizes;
-    table.v() == usize::from(v)
-        && table.n() == usize::from(n)
-        && table.k() == usize::from(k)
-        && table.grade() == plain.grade
+// A table as each of the two readers gives it.
+#[derive(Clone, Copy)]
+struct Both<'a> {
+    table: &'a Table,
+    plain: &'a Plain,
 }
 
-// In grade 2 as many record units as the load says stand behind each check unit; in grade 1 the load is 0.
-fn same_load(table: &Table, plain: &Plain) -> bool {
-    match plain.grade {
-        Grade::Packing => table.load() == 0,
-        Grade::Steiner => (0..plain.sizes.v).all(|p| plain.behind(p) == table.load()),
+impl Both<'_> {
+    fn same_sizes(self) -> bool {
+        let Sizes { v, n, k } = self.plain.sizes;
+        self.table.v() == usize::from(v)
+            && self.table.n() == usize::from(n)
+            && self.table.k() == usize::from(k)
+            && self.table.grade() == self.plain.grade
     }
-}
 
-// Every block has the same points, and there is none past the last.
-fn same_blocks(table: &Table, plain: &Plain) -> bool {
-    (0..=usize::from(plain.sizes.n)).all(|d| same_block(table, plain, d))
-}
+    // In grade 2 as many record units as the load says stand behind each check unit; in grade 1 the load is 0.
+    fn same_load(self) -> bool {
+        match self.plain.grade {
+            Grade::Packing => self.table.load() == 0,
+            Grade::Steiner => (0..self.plain.sizes.v).all(|p| self.plain.behind(p)
+                == self.table.load()),
+        }
+    }
 
-fn same_block(table: &Table, plain: &Plain, d: usize) -> bool {
-    (0..=plain.sizes.v).all(|p| table.block_has(d, usize::from(p)) == plain.block_has(d, p))
+    // Every block has the same points, and there is none past the last.
+    fn same_blocks(self) -> bool {
+        (0..=usize::from(self.plain.sizes.n)).all(|d| self.same_block(d))
+    }
+
+    fn same_block(self, d: usize) -> bool {
+        (0..=self.plain.sizes.v).all(|p| {
+            self.table.block_has(d, usize::from(p)) == self.plain.block_has(d, p)
+        })
+    }
 }

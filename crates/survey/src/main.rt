@@ -11,7 +11,7 @@ mod unread;
 mod witness;
 
 use choice::{Choice, larger};
-use std::alloc::{AllocError, Global};
+use std::alloc::Global;
 use std::io;
 use table::Table;
 use tally::{Line, Tally};
@@ -33,7 +33,7 @@ fn survey_sizes(rt: &HostRuntime, trial: &Trial) -> io::Result<Tally> {
     for size in 0..=MOST.min(units) {
         let tally = trial.ask_all(choices.as_slice());
         rt.println(Line { size, tally })?;
-        total = total + tally;
+        total += tally;
         choices = larger(heap, choices.as_slice(), units)?;
     }
     Ok(total)
@@ -68,8 +68,8 @@ fn survey_line(rt: &HostRuntime, line: &str) -> io::Result<Tally> {
     let (name, words) = line.split_once(':').unwrap_or(("table", line));
     match read(rt.alloc(), words) {
         Ok(table) => survey_table(rt, name, table),
-        Err(Unread::Memory) => Err(AllocError.into()),
-        Err(Unread::NoByte(_) | Unread::NoTable(_)) => {
+        Err(Unread::Memory(e)) => Err(e.into()),
+        Err(Unread::NoTable) => {
             println!(rt; "{name}: no table")?;
             Ok(Tally::default())
         }
@@ -79,7 +79,7 @@ fn survey_line(rt: &HostRuntime, line: &str) -> io::Result<Tally> {
 fn main(rt: HostRuntime) -> io::Result<()> {
     let mut total = Tally::default();
     for line in rt.lines(rt.alloc()) {
-        total = total + survey_line(&rt, line?.as_str())?;
+        total += survey_line(&rt, line?.as_str())?;
     }
     let Tally { answers, wrong, .. } = total;
     println!(rt; "{answers} answers checked, {wrong} wrong")

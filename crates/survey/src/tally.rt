@@ -1,59 +1,67 @@
 ghost use Rattle.std.specs.Prelude.{◌≡◌, T};
 
 use std::fmt;
-use std::ops::Add;
+use std::iter::Sum;
+use std::num::Saturating;
+use std::ops::AddAssign;
 
 /// What was asked, and what came of it.
 #[derive(Clone, Copy, Default)]
 pub struct Tally {
     /// Missing sets.
-    pub sets: u32,
+    pub sets: Saturating<u32>,
     /// Recipes for missing units.
-    pub recipes: u32,
+    pub recipes: Saturating<u32>,
     /// Loss sets of missing units.
-    pub losses: u32,
+    pub losses: Saturating<u32>,
     /// Records that cannot be read: loss sets of record units.
-    pub unreadable: u32,
+    pub unreadable: Saturating<u32>,
     /// Missing sets with which some record cannot be read.
-    pub harmful: u32,
+    pub harmful: Saturating<u32>,
     /// Missing sets whose relations are right and enough.
-    pub related: u32,
+    pub related: Saturating<u32>,
     /// Answers that were checked.
-    pub answers: u32,
+    pub answers: Saturating<u32>,
     /// Wrong ones among them.
-    pub wrong: u32,
+    pub wrong: Saturating<u32>,
 }
 
 impl Tally {
     /// One answer, right or wrong.
     pub fn of_answer(right: bool) -> Tally
-        ensures { result.wrong ≡ 0 → T right }
+        ensures { result.wrong.0 ≡ 0 → T right }
     {
         Tally {
-            answers: 1,
-            wrong: u32::from(!right),
+            answers: Saturating(1),
+            wrong: Saturating(u32::from(!right)),
             ..Tally::default()
         }
     }
 }
 
-// Both together. No wrong answer is forgotten.
-impl Add for Tally {
-    type Output = Tally;
+// No wrong answer is forgotten.
+impl AddAssign for Tally {
+    ghost add_assign_gives = { λ a b r. r.wrong.0 ≡ 0 → (a.wrong.0 ≡ 0) × (b.wrong.0 ≡ 0) };
 
-    ghost add_gives = { λ a b r. r.wrong ≡ 0 → (a.wrong ≡ 0) × (b.wrong ≡ 0) };
+    fn add_assign(&mut self, other: Tally) {
+        self.sets += other.sets;
+        self.recipes += other.recipes;
+        self.losses += other.losses;
+        self.unreadable += other.unreadable;
+        self.harmful += other.harmful;
+        self.related += other.related;
+        self.answers += other.answers;
+        self.wrong += other.wrong;
+    }
+}
 
-    fn add(self, other: Tally) -> Tally {
-        Tally {
-            sets: self.sets.saturating_add(other.sets),
-            recipes: self.recipes.saturating_add(other.recipes),
-            losses: self.losses.saturating_add(other.losses),
-            unreadable: self.unreadable.saturating_add(other.unreadable),
-            harmful: self.harmful.saturating_add(other.harmful),
-            related: self.related.saturating_add(other.related),
-            answers: self.answers.saturating_add(other.answers),
-            wrong: self.wrong.saturating_add(other.wrong),
+impl Sum<Tally> for Tally {
+    fn sum<I: Iterator<Item = Tally>>(iter: I) -> Tally {
+        let mut sum = Tally::default();
+        for tally in iter {
+            sum += tally;
         }
+        sum
     }
 }
 

@@ -4,6 +4,7 @@ use crate::witness::Witness;
 use cell::Cell;
 use recovery::{Layout, Unreadable};
 use sets::SmallSet;
+use std::num::Saturating;
 use table::Table;
 
 /// A layout that is asked, and a witness to its answers.
@@ -36,12 +37,12 @@ impl Trial {
         }
         match solution {
             Ok(_) => Tally {
-                recipes: 1,
+                recipes: Saturating(1),
                 ..answer
             },
             Err(Unreadable::Lost(_)) => Tally {
-                losses: 1,
-                unreadable: u32::from(number < self.layout.table().n()),
+                losses: Saturating(1),
+                unreadable: Saturating(u32::from(number < self.layout.table().n())),
                 ..answer
             },
             Err(Unreadable::NoUnit) => answer,
@@ -53,7 +54,7 @@ impl Trial {
         let relations = self.layout.relations::<u8>(missing);
         let right = self.witness.confirms_relations(missing, relations);
         Tally {
-            related: u32::from(right),
+            related: Saturating(u32::from(right)),
             ..Tally::of_answer(right)
         }
     }
@@ -65,14 +66,17 @@ impl Trial {
 
     // Asks for the relations, for every unit, for three numbers that are no units, and for the lost record units.
     fn ask_set(&self, missing: SmallSet) -> Tally {
-        let tally = (0..=self.units())
+        let mut tally: Tally = (0..=self.units())
             .chain([64, usize::MAX])
             .map(|number| self.ask(missing, number))
-            .fold(self.ask_relations(missing), |sum, tally| sum + tally);
+            .sum();
+        let unreadable = tally.unreadable.0;
+        tally += self.ask_relations(missing);
+        tally += self.ask_lost(missing, unreadable);
         Tally {
-            sets: 1,
-            harmful: u32::from(tally.unreadable > 0),
-            ..tally + self.ask_lost(missing, tally.unreadable)
+            sets: Saturating(1),
+            harmful: Saturating(u32::from(unreadable > 0)),
+            ..tally
         }
     }
 
@@ -81,6 +85,6 @@ impl Trial {
         missing_sets
             .iter()
             .map(|missing| self.ask_set(missing.chosen))
-            .fold(Tally::default(), |sum, tally| sum + tally)
+            .sum()
     }
 }

@@ -6,27 +6,25 @@ use table::TableFault;
 #[derive(Drop)]
 pub enum Unread {
     /// There is no memory for its bytes.
-    Memory,
-    /// A word writes no byte.
-    NoByte(ParseIntError),
-    /// The bytes are no table.
-    NoTable(TableFault),
+    Memory(AllocError),
+    /// A word writes no byte, or the bytes are no table.
+    NoTable,
 }
 
 impl From<AllocError> for Unread {
-    fn from(_e: AllocError) -> Unread {
-        Unread::Memory
+    fn from(e: AllocError) -> Unread {
+        Unread::Memory(e)
     }
 }
 
 impl From<ParseIntError> for Unread {
-    fn from(e: ParseIntError) -> Unread {
-        Unread::NoByte(e)
+    fn from(_e: ParseIntError) -> Unread {
+        Unread::NoTable
     }
 }
 
 impl From<TableFault> for Unread {
-    fn from(fault: TableFault) -> Unread {
-        Unread::NoTable(fault)
+    fn from(_fault: TableFault) -> Unread {
+        Unread::NoTable
     }
 }

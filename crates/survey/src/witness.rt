@@ -24,6 +24,8 @@ struct Vectors {
 #[derive(Clone, Copy)]
 pub struct Witness {
     pub units: SmallSet,
+    // One for each number that a unit may have. Those past the units are of no unit, and nothing asks for them. It is
+    // an array because a Vec would make calls fail that cannot.
     vectors: [Vectors; LIMIT],
 }
 
@@ -87,11 +89,8 @@ impl Witness {
     fn rank_of(&self, good: SmallSet) -> usize
         ensures { result ≤ 64 }
     {
-        let mut vectors: [SmallSet; LIMIT] = array::from_fn(|unit| if good.contains(unit) {
-            self.ones(SmallSet::of(unit))
-        } else {
-            SmallSet::empty()
-        });
+        let ones = |unit| self.ones(good.intersection(SmallSet::of(unit)));
+        let mut vectors: [SmallSet; LIMIT] = array::from_fn(ones);
         rank(&mut vectors)
     }
 
