@@ -1,10 +1,9 @@
 -- What clashes a contents has, from the first failures of its two tests.
-use Rattle.std.proofs.Common.{◌≡◌, ℕ, ◌<◌, cond, ◌&&◌, eqb, ltb, Some, None, Ok, Err, Option, Result, MatchOption, sym, ap, ◌∙◌, ap₂, arith}
-use Rattle.std.specs.Result.{result_err}
+use Rattle.std.proofs.Common.{◌≡◌, ℕ, ◌<◌, cond, ◌&&◌, eqb, ltb, Some, None, Option, ap, ◌∙◌, ap₂, arith}
 use Rattle.std.proofs.lemmas.Bool.{lt-ltb, le-ltb, cond-true, cond-false, and_right, and_left}
 use Rattle.table.specs.declared.fault.TableFault.{TableFault}
 use Rattle.table.specs.declared.fault.TableFault.TheVariants.{Pair, Cover}
-use Rattle.table.specs.Ranges.{first, FirstFailing}
+use Rattle.table.specs.Ranges.{first}
 use Rattle.table.specs.Contents.{Contents}
 use Rattle.table.specs.Reading.{apart, joined, clash}
 
@@ -30,12 +29,7 @@ unfolding loose
 clash_cover t p e g f h =
     apart_so t e ∙ cond-true _ _ _ (ap₂ (λ x y. eqb x 2 && ltb y t.v) g f ∙ lt-ltb p t.v h) ∙ ap (λ x. Some (Cover x)) f
 
-clash_none : (t : Contents) → first (apart t) t.n ≡ t.n → first (joined t) t.v ≡ t.v → clash t ≡ None
+pub clash_none : (t : Contents) → first (apart t) t.n ≡ t.n → first (joined t) t.v ≡ t.v → clash t ≡ None
 unfolding loose
 clash_none t e f =
     apart_so t e ∙ cond-false _ _ _ (and_right (eqb t.grade 2) (ltb (first (joined t) t.v) t.v) (ap (λ x. ltb x t.v) f ∙ le-ltb t.v t.v (omega arith)))
-
--- where no blocks clash, the answer in grade 2 is that of the first point that is left out
-pub clash_steiner : (t : Contents) (o : Option ℕ) (r : Result Unit TableFault) → first (apart t) t.n ≡ t.n → t.grade ≡ 2 → FirstFailing (joined t) t.v o → MatchOption o (r ≡ Ok tt) (λ p. r ≡ Err (Cover p)) → result_err r ≡ clash t
-clash_steiner t None r e g f h = ap result_err h ∙ sym (clash_none t e f)
-clash_steiner t (Some p) r e g f h = ap result_err h ∙ sym (clash_cover t p e g f.0 f.1)

@@ -1,5 +1,5 @@
 -- What the reader knows after each part of the bytes.
-use Rattle.std.specs.Prelude.{◌≡◌, ℕ, ◌+◌, ◌<◌, ◌≤◌, false, cond, List, length, Some, nat_lt, slice_index}
+use Rattle.std.specs.Prelude.{◌≡◌, ℕ, ◌+◌, ◌*◌, ◌<◌, ◌≤◌, false, cond, List, length, Some, nat_lt, slice_index}
 use Rattle.std.specs.Range.{range_inclusive_start, range_inclusive_end, range_inclusive_exhausted}
 use Rattle.std.specs.declared.ops.RangeInclusive.{RangeInclusive}
 use Rattle.table.specs.declared.fault.TableFault.{TableFault}
@@ -51,6 +51,17 @@ pub record SizesOf (bs : List ℕ) (z : Sizes) : Type 0 where
 -- the sizes z were taken
 abbrev pub Sized : Reader → Reader → Sizes → Type 0
 Sized r s z = SizesOf r.bytes.now z × On r s 5
+
+-- the next byte is the first of a block of k points, which are below v
+pub record BlockNext (r : Reader) (k v : ℕ) : Type 0 where
+  pub v_is : v ≡ byte r.bytes.now 1
+  pub k_is : k ≡ byte r.bytes.now 3
+  pub place : (d : ℕ) × (d < byte r.bytes.now 2) × (r.at ≡ 5 + d * byte r.bytes.now 3)
+
+-- the points ps were taken
+pub record BlockRead (r s : Reader) (ps : List ℕ) : Type 0 where
+  pub are : (i : ℕ) → i < length ps → slice_index ps i ≡ byte r.bytes.now (r.at + i)
+  pub on : On r s (length ps)
 
 -- ps has the first m points of the bytes, and 0 from there on
 abbrev pub Filled : List ℕ → ℕ → List ℕ → Type 0

@@ -1,7 +1,6 @@
-ghost use Rattle.std.specs.Prelude.{◌≡◌, ◌<◌, nat_le};
+ghost use Rattle.std.specs.Prelude.{◌≡◌, ◌<◌};
 ghost use Rattle.std.specs.Result.{result_err};
 ghost use Rattle.table.specs.Ranges.{FirstFailing};
-ghost use Rattle.table.specs.Contents.{shared};
 ghost use Rattle.table.specs.Reading.{apart, together, joined, clash};
 ghost use Rattle.table.specs.Held.{draft_contents};
 ghost use Rattle.table.specs.Answers.{PointsOf};
@@ -25,21 +24,13 @@ impl Draft {
         )
     }
 
-    // Whether the blocks `d` and `e` share at most one point.
-    fn pair_apart(&self, d: usize, e: usize) -> bool
-        requires first { d < self.now.sizes.n }
-        requires second { e < self.now.sizes.n }
-        ensures { result ≡ nat_le (shared (draft_contents self.now) d e) 1 }
-    {
-        self.block(d).intersection(self.block(e)).len() <= 1
-    }
-
     // Whether block `d` shares at most one point with each block before it.
     fn apart(&self, d: usize) -> bool
         requires { d < self.now.sizes.n }
         ensures { result ≡ apart (draft_contents self.now) d }
     {
-        (0..d).all(|e| self.pair_apart(d, e))
+        let block = self.block(d);
+        (0..d).all(|e| block.intersection(self.block(e)).len() <= 1)
     }
 
     // The first block that shares two points with an earlier one.
@@ -81,11 +72,11 @@ impl Draft {
         if let Some(block) = self.first_pair() {
             return Err(TableFault::Pair { block });
         }
-        match self.grade {
-            Grade::Packing => Ok(()),
-            Grade::Steiner => self
-                .first_loose()
-                .map_or(Ok(()), |point| Err(TableFault::Cover { point })),
+        if self.grade == Grade::Steiner
+            && let Some(point) = self.first_loose()
+        {
+            return Err(TableFault::Cover { point });
         }
+        Ok(())
     }
 }

@@ -1,7 +1,7 @@
 ghost use Rattle.std.specs.Prelude.{◌≡◌, ◌+◌, ◌*◌, ◌<◌, length, MatchResult};
 ghost use Rattle.table.specs.Place.{full};
 ghost use Rattle.table.specs.Answers.{Read, OneAnswer};
-ghost use Rattle.table.specs.Stages.{Refuses, Asked, Next, Got, SizesOf, Sized, PointsRead, Graded, Spelt};
+ghost use Rattle.table.specs.Stages.{Refuses, Asked, Next, Got, SizesOf, Sized, BlockNext, BlockRead, PointsRead, Graded, Spelt};
 
 use super::{Draft, POINTS, Reader, Sizes, Table};
 use crate::fault::TableFault;
@@ -54,6 +54,20 @@ impl Reader<'_> {
         Ok(Sizes { v, n, k })
     }
 
+    // The points of one block.
+    fn block(&mut self, block: &mut [u8], v: u8) -> Result<(), TableFault>
+        requires { BlockNext self.old (length block.old) v }
+        ensures { MatchResult result (λ _. BlockRead self.old self.new block.new) (Refuses self.old.bytes.now) }
+    {
+        let mut low = 0;
+        for point in block.iter_mut() {
+            let at = self.at;
+            *point = self.take(low..=v - 1, TableFault::Point { at })?;
+            low = *point + 1;
+        }
+        Ok(())
+    }
+
     // The points of all blocks.
     fn points(&mut self, sizes: Sizes) -> Result<[u8; POINTS], TableFault>
         requires place { self.old.at ≡ 5 }
@@ -62,14 +76,9 @@ impl Reader<'_> {
     {
         let k = sizes.k as usize;
         let mut points = [0; POINTS];
-        let mut low = 0;
-        for (i, point) in points[..sizes.points()].iter_mut().enumerate() {
-            if i % k == 0 {
-                low = 0;
-            }
-            let at = self.at;
-            *point = self.take(low..=sizes.v - 1, TableFault::Point { at })?;
-            low = *point + 1;
+        // By number: of what is written through `chunks_exact_mut`, a proof knows only the length.
+        for d in 0..sizes.n as usize {
+            self.block(&mut points[d * k..(d + 1) * k], sizes.v)?;
         }
         Ok(points)
     }
