@@ -199,10 +199,10 @@ impl Plain {
             return Ok(());
         }
         let pairs = all_pairs(heap, self.sizes.v)?;
-        match pairs.iter().find(|pair| !together.contains(*pair)) {
-            Some([low, _]) => Err(Kind::Cover.at(usize::from(*low)).into()),
-            None => Ok(()),
+        if let Some([low, _]) = pairs.iter().find(|pair| !together.contains(*pair)) {
+            return Err(Kind::Cover.at(usize::from(*low)).into());
         }
+        Ok(())
     }
 
     /// Whether block `d` is there and has `point`.

@@ -68,10 +68,10 @@ impl fmt::Display for Advice {
         match *self {
             Advice::Add { next, whole } => {
                 write!(f, "the bytes end too early: {next}")?;
-                match whole {
-                    Some(whole) => write!(f, "; a table of these sizes has {whole} bytes"),
-                    None => Ok(()),
+                if let Some(whole) = whole {
+                    write!(f, "; a table of these sizes has {whole} bytes")?;
                 }
+                Ok(())
             }
             Advice::Change { place, value } => write!(f, "{place}; here it is {value}"),
             Advice::Cut { at } => write!(

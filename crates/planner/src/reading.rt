@@ -27,7 +27,7 @@ impl Sizes {
 }
 
 /// Points that a block has in common with a certain one.
-#[derive(Clone, Copy)]
+#[derive(Clone, Copy, Default)]
 pub struct Shared {
     pub block: usize,
     pub points: SmallSet,
@@ -86,10 +86,7 @@ impl Reading<'_> {
                 points: ours.intersection(self.block(e)),
             })
             .max_by_key(|shared| shared.points.len())
-            .unwrap_or(Shared {
-                block: 0,
-                points: SmallSet::empty(),
-            })
+            .unwrap_or_default()
     }
 
     // The points above `point`.
