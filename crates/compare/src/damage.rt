@@ -1,19 +1,23 @@
 use crate::count::Count;
 use std::alloc::{AllocError, Global};
 
-// Counts the bytes with byte `at` set to `value`.
-fn count_changed(heap: Global, bytes: &[u8], at: usize, value: u8) -> Result<Count, AllocError> {
+// Counts the bytes with byte `at` set to each value in turn.
+fn count_changed(heap: Global, bytes: &[u8], at: usize) -> Result<Count, AllocError> {
     let mut copy = Vec::from_slice(heap, bytes)?;
-    if let Some(byte) = copy.get_mut(at) {
-        *byte = value;
-    }
-    Count::of(heap, copy.as_slice())
+    (0..=u8::MAX)
+        .map(|value| {
+            if let Some(byte) = copy.get_mut(at) {
+                *byte = value;
+            }
+            Count::of(heap, copy.as_slice())
+        })
+        .sum()
 }
 
 /// Counts the bytes with each byte set to each value in turn.
 pub fn changes(heap: Global, bytes: &[u8]) -> Result<Count, AllocError> {
     (0..bytes.len())
-        .flat_map(|at| (0..=u8::MAX).map(move |value| count_changed(heap, bytes, at, value)))
+        .map(|at| count_changed(heap, bytes, at))
         .sum()
 }
 

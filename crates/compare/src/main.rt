@@ -18,24 +18,28 @@ use samples::{BLOCKS_A, BLOCKS_F, table_bytes};
 use std::io;
 use table::{Grade, TableFault, table_d};
 
-// Prints the counts, and gives their sum.
-fn tell(rt: &HostRuntime, counts: &[(&str, Count)]) -> io::Result<Count> {
-    for (what, count) in counts {
-        println!(rt; "  {what}: {count}")?;
-    }
-    Ok(counts.iter().map(|(_, count)| *count).sum())
+// Prints a count, and gives it.
+fn tell(rt: &HostRuntime, what: &str, count: Count) -> io::Result<Count> {
+    println!(rt; "  {what}: {count}")?;
+    Ok(count)
 }
 
 // A table, damaged in each way.
 fn damaged(rt: &HostRuntime, name: &str, bytes: &[u8]) -> io::Result<Count> {
     let heap = rt.alloc();
     println!(rt; "table {name}")?;
-    let counts = [
-        ("each byte set to each value", damage::changes(heap, bytes)?),
-        ("each front, from none to all", damage::fronts(heap, bytes)?),
-        ("with a byte more", damage::appends(heap, bytes)?),
-    ];
-    tell(rt, &counts)
+    let mut total = tell(
+        rt,
+        "each byte set to each value",
+        damage::changes(heap, bytes)?,
+    )?;
+    total += tell(
+        rt,
+        "each front, from none to all",
+        damage::fronts(heap, bytes)?,
+    )?;
+    total += tell(rt, "with a byte more", damage::appends(heap, bytes)?)?;
+    Ok(total)
 }
 
 // Sizes at their limits.
@@ -44,25 +48,21 @@ fn limits(rt: &HostRuntime) -> io::Result<Count> {
     let short = TableFault::Short { length: 5 };
     let size = TableFault::Size { at: 2 };
     println!(rt; "sizes")?;
-    let counts = [
-        ("v to 42, n to 66, k to 10", edges::sizes(heap)?),
-        ("n + v = 64, SHORT at 5", edges::sums(heap, 64, short)?),
-        ("n + v = 65, SIZE at 2", edges::sums(heap, 65, size)?),
-    ];
-    tell(rt, &counts)
+    let mut total = tell(rt, "v to 42, n to 66, k to 10", edges::sizes(heap)?)?;
+    total += tell(rt, "n + v = 64, SHORT at 5", edges::sums(heap, 64, short)?)?;
+    total += tell(rt, "n + v = 65, SIZE at 2", edges::sums(heap, 65, size)?)?;
+    Ok(total)
 }
 
 // Tables whose blocks are pairs.
 fn paired(rt: &HostRuntime) -> io::Result<Count> {
     let heap = rt.alloc();
     println!(rt; "tables of pairs")?;
-    let counts = [
-        ("n + v = 64, grade 1", pairings::largest(heap)?),
-        ("all pairs of v points", pairings::whole(heap)?),
-        ("all but one, each in turn", pairings::left_out(heap)?),
-        ("each in the place of each", pairings::repeated(heap)?),
-    ];
-    tell(rt, &counts)
+    let mut total = tell(rt, "n + v = 64, grade 1", pairings::largest(heap)?)?;
+    total += tell(rt, "all pairs of v points", pairings::whole(heap)?)?;
+    total += tell(rt, "all but one, each in turn", pairings::left_out(heap)?)?;
+    total += tell(rt, "each in the place of each", pairings::repeated(heap)?)?;
+    Ok(total)
 }
 
 fn main(rt: HostRuntime) -> io::Result<()> {

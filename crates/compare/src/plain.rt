@@ -2,7 +2,7 @@
 //! pairs of points that lie together.
 ghost use Rattle.std.specs.Prelude.{◌≡◌};
 
-use crate::pairs::{all_pairs, pairs};
+use crate::pairs::all_pairs;
 use std::alloc::{AllocError, AllocFailed, Global};
 use std::collections::BTreeSet;
 use table::{Grade, TableFault};
@@ -154,6 +154,24 @@ impl Cursor<'_> {
     }
 }
 
+// Adds the pairs of a block, and says whether none was there before.
+fn add_block(together: &mut BTreeSet<[u8; 2]>, block: &[u8]) -> Result<bool, Stop> {
+    let mut new = true;
+    for low in block {
+        new &= add_pairs(together, *low, block)?;
+    }
+    Ok(new)
+}
+
+// Adds the pairs of `low` with the higher points of a block, and says whether none was there before.
+fn add_pairs(together: &mut BTreeSet<[u8; 2]>, low: u8, block: &[u8]) -> Result<bool, Stop> {
+    let mut new = true;
+    for high in block.iter().filter(|high| low < **high) {
+        new &= together.insert([low, *high])?;
+    }
+    Ok(new)
+}
+
 /// A table with its blocks in lists.
 #[derive(Drop)]
 pub struct Plain {
@@ -183,11 +201,9 @@ impl Plain {
     fn together(&self, heap: Global) -> Result<BTreeSet<[u8; 2]>, Stop> {
         let mut together = BTreeSet::new(heap);
         for (d, block) in self.blocks.iter().enumerate() {
-            let pairs = pairs(heap, block.as_slice())?;
-            if pairs.iter().any(|pair| together.contains(pair)) {
+            if !add_block(&mut together, block.as_slice())? {
                 return Err(Kind::Pair.at(d).into());
             }
-            together.extend(pairs)?;
         }
         Ok(together)
     }

@@ -1,8 +1,9 @@
 -- The groups of a table, in an array.
-use Rattle.std.proofs.Common.{◌≡◌, ℕ, zero, suc, ◌+◌, ◌<◌, ◌≤◌, false, List, length, take, drop, get_or, sym, ap, ◌∙◌, subst, ⊎_elim, arith, length-take, get_or-take}
+use Rattle.std.proofs.Common.{◌≡◌, ℕ, zero, suc, ◌+◌, ◌<◌, ◌≤◌, false, ◌&&◌, ◌||◌, eqb, ltb, rules, List, length, take, drop, get_or, sym, ap, ◌∙◌, subst, ⊎_elim, arith, length-take, get_or-take}
 use Rattle.std.proofs.lemmas.List.{get_or-drop}
 use denote.Param.Members.{Mut, Called}
 use Rattle.std.specs.Array.{IsFromFnResultFrom}
+use borrow.Author.Tests.{tests}
 use Rattle.std.proofs.lemmas.Bool.{cases_eq, cases_lt}
 use Rattle.sets.specs.declared.set.SmallSet.{SmallSet}
 use Rattle.sets.specs.Members.{has}
@@ -12,7 +13,7 @@ use Rattle.recovery.specs.declared.layout.Layout.{Layout}
 use Rattle.recovery.specs.Groups.{in_group, at, Grouped}
 use Rattle.recovery.specs.Layouts.{laid_out}
 use Rattle.recovery.proofs.Elimination.{none_past}
-use Rattle.recovery.proofs.Books.{no_group}
+use Rattle.recovery.proofs.Books.{no_group, group_is}
 
 -- what an array is filled with by calls that leave their closure as it was: at each place what the call for it answered
 pub filled : {F B : Type 0} (g : Mut F (ℕ × Unit {0}) B) (R : ℕ → B → Type 0) (f : F) (ys : List B)
@@ -33,6 +34,13 @@ module _ (t : Contents) where
       (λ l. is p l u)
       (λ l. none_past groups p u (omega arith) ∙ sym (no_group t p u (omega arith)))
       (cases_lt p 40)
+
+  -- a group has no other units than its check unit and record units
+  pub group_all : (p u : ℕ) → (in_group t p u && (ltb u t.n || eqb u (t.n + p))) ≡ in_group t p u
+  group_all p u = ⊎_elim
+      (λ l. let is = group_is t p u l in search (rules, tests))
+      (λ l. let none = no_group t p u l in search (rules, tests))
+      (cases_lt p t.v)
 
   -- the first v of the groups are all there are
   grouped_front : (groups : List SmallSet) (m : ℕ) → Grouped t groups → t.v ≤ length groups → m ≡ t.v → Grouped t (take m groups)

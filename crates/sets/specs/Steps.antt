@@ -1,6 +1,7 @@
 -- Going through a set in ascending order.
 use Rattle.std.specs.Prelude.{◌≡◌, ℕ, ◌<◌, true, false, not, ◌&&◌, Some, None, Option, ◌==◌}
 use Rattle.sets.specs.declared.set.SmallSet.{SmallSet}
+use Rattle.sets.specs.declared.members.Members.{Members}
 use Rattle.sets.specs.Members.{has}
 
 -- i is the least member of s
@@ -21,3 +22,7 @@ Without s i t = (j : ℕ) → has t j ≡ (has s j && not (j == i))
 abbrev pub Step : SmallSet → Option ℕ → SmallSet → Type 0
 Step s None t = Empty s × (t ≡ s)
 Step s (Some i) t = Least s i × Without s i t
+
+-- the members that an iterator over a set has still to give
+abbrev pub to_come : Members → SmallSet
+to_come m = m.rest

@@ -1,10 +1,9 @@
 ghost use Rattle.sets.specs.Members.{has};
-ghost use Rattle.sets.specs.Steps.{Step};
+ghost use Rattle.sets.specs.Steps.{Step, to_come};
 ghost use Rattle.sets.specs.Sums.{count};
 ghost use Rattle.std.specs.Iterator.{at_most};
 
 use crate::set::SmallSet;
-use std::marker::Model;
 
 /// The members of a set in ascending order.
 #[derive(Clone, Copy)]
@@ -13,23 +12,12 @@ pub struct Members {
     pub(crate) rest: SmallSet,
 }
 
-// Seen as the set of those that are still to come.
-impl Model for Members {
-    ghost use Rattle.sets.specs.declared.set.SmallSet.{SmallSet};
-
-    ghost Value = { SmallSet };
-
-    ghost view = { λ m. m.rest };
-
-    ghost inverse = { λ s. record { rest = s } };
-}
-
 impl Iterator for Members {
     type Item = usize;
 
-    ghost next_gives = { Step };
+    ghost next_gives = { λ s r t. Step (to_come s) r (to_come t) };
 
-    ghost remaining = { λ s. at_most (count 64 (has s)) };
+    ghost remaining = { λ s. at_most (count 64 (has (to_come s))) };
 
     fn next(&mut self) -> Option<usize> {
         let least = self.rest.least()?;

@@ -2,7 +2,7 @@ ghost use Rattle.std.specs.Prelude.{◌≡◌, ℕ, ◌<◌, ◌≤◌, true, fa
 ghost use Rattle.std.specs.Bool.{xor};
 ghost use Rattle.sets.specs.Members.{has, same_word};
 ghost use Rattle.sets.specs.Parity.{oddly};
-ghost use Rattle.sets.specs.Steps.{Empty, Least};
+ghost use Rattle.sets.specs.Steps.{Empty, Least, to_come};
 ghost use Rattle.sets.specs.Sums.{count};
 ghost use Rattle.std.specs.Cmp.Rules.{comparing};
 ghost use Rattle.std.proofs.Common.{rules};
@@ -162,7 +162,7 @@ impl SmallSet {
 
     /// The members in ascending order.
     pub fn iter(self) -> Members
-        ensures { result ≡ self }
+        ensures { to_come result ≡ self }
     {
         Members { rest: self }
     }

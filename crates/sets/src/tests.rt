@@ -1,4 +1,4 @@
-use crate::SmallSet;
+use crate::{Members, SmallSet};
 
 #[test]
 fn numbers_past_63_are_no_members(rt: HostRuntime) {
@@ -47,4 +47,24 @@ fn sets_by_a_test(rt: HostRuntime) {
     assert_eq!(rt; few, SmallSet::of(0).with(42).with(63));
     assert!(rt; few.is_subset(multiples) && !multiples.is_subset(few));
     assert!(rt; few.difference(multiples).is_empty() && !few.is_empty());
+}
+
+// The members of a set as a part of something that is copied.
+#[derive(Clone, Copy)]
+struct Walk {
+    left: Members,
+}
+
+fn first(walk: Walk) -> Option<usize> {
+    let mut left = walk.left;
+    left.next()
+}
+
+#[test]
+fn what_has_members_is_copied(rt: HostRuntime) {
+    let walk = Walk {
+        left: SmallSet::of(5).iter(),
+    };
+    assert_eq!(rt; first(walk), Some(5));
+    assert_eq!(rt; first(walk), Some(5));
 }

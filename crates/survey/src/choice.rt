@@ -21,8 +21,14 @@ impl Choice {
 
 /// From all choices of some size among the first `units` numbers, all of the next size.
 pub fn larger(heap: Global, choices: &[Choice], units: usize) -> Result<Vec<Choice>, AllocError> {
-    choices
-        .iter()
-        .flat_map(|choice| (choice.next..units).map(|unit| choice.with(unit)))
-        .collect(heap)
+    // Room for just so many, since a list that grows as they come may ask for nearly twice as much.
+    let count = choices.iter().fold(
+        0,
+        |count: usize, choice| count.saturating_add(units.saturating_sub(choice.next)),
+    );
+    let mut larger = Vec::with_capacity(heap, count)?;
+    larger.extend(
+        choices.iter().flat_map(|choice| (choice.next..units).map(|unit| choice.with(unit))),
+    )?;
+    Ok(larger)
 }

@@ -11,7 +11,7 @@ use table::Table;
 const LIMIT: usize = 64;
 
 /// What a unit is, as vectors over GF(2).
-#[derive(Clone, Copy)]
+#[derive(Clone, Copy, Default)]
 struct Vectors {
     // The books in which it holds a one. In book j record unit j holds a one, and the others hold zero. Sums are linear, so
     // one that is right in each of these books is right in every book.
@@ -24,21 +24,26 @@ struct Vectors {
 #[derive(Clone, Copy)]
 pub struct Witness {
     pub units: SmallSet,
-    // One for each number that a unit may have. Those past the units are of no unit, and nothing asks for them. It is
-    // an array because a Vec would make calls fail that cannot.
+    // One for each number that a unit may have, with nothing in those past the units. It is an array because a Vec would
+    // make calls fail that cannot.
     vectors: [Vectors; LIMIT],
 }
 
 impl Witness {
     /// What the blocks of `table` say.
     pub fn of(table: &Table) -> Witness {
-        let units = table.n().saturating_add(table.v());
+        let n = table.n();
+        let units = n.saturating_add(table.v());
+        let books = SmallSet::from_fn(|book| book < n);
+        let vectors = |unit| Vectors {
+            ones: ones_of(table, books, unit),
+            points: points_of(table, unit),
+        };
         Witness {
             units: SmallSet::from_fn(|unit| unit < units),
-            vectors: array::from_fn(|unit| Vectors {
-                ones: ones_of(table, unit),
-                points: points_of(table, unit),
-            }),
+            vectors: array::from_fn(|unit| (unit < units)
+                .then(|| vectors(unit))
+                .unwrap_or_default()),
         }
     }
 
@@ -89,9 +94,13 @@ impl Witness {
     fn rank_of(&self, good: SmallSet) -> usize
         ensures { result ≤ 64 }
     {
-        let ones = |unit| self.ones(good.intersection(SmallSet::of(unit)));
-        let mut vectors: [SmallSet; LIMIT] = array::from_fn(ones);
-        rank(&mut vectors)
+        let mut ones = [SmallSet::empty(); LIMIT];
+        for (place, unit) in ones.iter_mut().zip(good.iter()) {
+            if let Some(vectors) = self.vectors.get(unit) {
+                *place = vectors.ones;
+            }
+        }
+        rank(&mut ones)
     }
 
     /// Whether the relations are right where the units of `missing` are missing, and as many as can be are independent.
@@ -103,14 +112,14 @@ impl Witness {
     }
 }
 
-// The books in which `unit` holds a one: those of the record units that are summed into it.
-fn ones_of(table: &Table, unit: usize) -> SmallSet {
+// Of `books` those in which `unit` holds a one: those of the record units that are summed into it.
+fn ones_of(table: &Table, books: SmallSet, unit: usize) -> SmallSet {
     let n = table.n();
     if unit < n {
         return SmallSet::of(unit);
     }
     let point = unit - n;
-    SmallSet::from_fn(|book| table.block_has(book, point))
+    books.filter(|book| table.block_has(book, point))
 }
 
 // The points in whose groups `unit` is: the block of a record unit, the own point of a check unit.

@@ -1,4 +1,4 @@
-ghost use Rattle.std.specs.Prelude.{◌≡◌, ℕ, length};
+ghost use Rattle.std.specs.Prelude.{◌≡◌, ℕ, ◌+◌, ◌&&◌, ◌||◌, ◌==◌, length};
 ghost use Rattle.sets.specs.Members.{has};
 ghost use Rattle.table.specs.Held.{contents};
 ghost use Rattle.recovery.specs.Groups.{Grouped, in_group};
@@ -28,16 +28,18 @@ fn groups(table: &Table) -> [SmallSet; GROUPS]
     ensures wide { length result ≡ 40 }
     ensures grouped { Grouped (contents table.now) result }
 {
-    array::from_fn(|point| group(table, point))
+    let n = table.n();
+    let records = SmallSet::from_fn(|unit| unit < n);
+    array::from_fn(|point| group(table, records, point))
 }
 
-// The group of one point; the empty set past the points.
-fn group(table: &Table, point: usize) -> SmallSet
-    ensures { (u : ℕ) → has result u ≡ in_group (contents table.now) point u }
+// The group of one point, without the record units that are not in `records`; the empty set past the points.
+fn group(table: &Table, records: SmallSet, point: usize) -> SmallSet
+    ensures { (u : ℕ) → has result u ≡ (in_group (contents table.now) point u && (has records u || u == (contents table.now).n + point)) }
 {
     if point >= table.v() {
         return SmallSet::empty();
     }
-    let check = table.n() + point;
-    SmallSet::from_fn(|unit| unit == check || table.block_has(unit, point))
+    let behind = records.filter(|unit| table.block_has(unit, point));
+    behind.with(table.n() + point)
 }

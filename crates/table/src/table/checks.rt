@@ -18,7 +18,8 @@ impl Draft {
     {
         let k = self.sizes.k as usize;
         let points = &self.points[d * k..(d + 1) * k];
-        points.iter().fold(
+        // There are no more than 8. `take` says so to the compiler, which then writes the few turns out.
+        points.iter().take(8).fold(
             SmallSet::empty(),
             |block, &point| block.with(point as usize),
         )

@@ -1,7 +1,7 @@
 use Rattle.std.proofs.Common.{◌≡◌, ℕ, List, get_or, sym, ap, ◌∙◌, ap₂}
 use Rattle.sets.specs.declared.set.SmallSet.{SmallSet}
 use Rattle.sets.specs.Members.{has}
-use Rattle.sets.specs.Steps.{Empty, Least, Without}
+use Rattle.sets.specs.Steps.{Empty, Least, Without, to_come}
 use Rattle.sets.specs.Sums.{total}
 use Rattle.sets.proofs.Sums.{unit_r}
 use Rattle.cell.specs.Kinds.{Laws}
@@ -33,17 +33,17 @@ module _ {C : Type 0} (o : C) (plus : C → C → C) (l : Laws o plus) (xs : Lis
 pub loop-place-preserved-in-Some-get : goal.loop-place-preserved-in-Some-get
 loop-place-preserved-in-Some-get g c =
     let k = g.C.Cell in
-    let rest = c.loop-place.place-iterator in
+    let rest = to_come c.loop-place.place-iterator in
     let step = c.in-Some.ensures.steps in
     let read = c.in-Some-get.ensures.lookup.3.1 k.zero in
-    taken k.zero k.sum k.laws c.args.cells.now c.loop-place.sum rest c.next.new.self _ _ _ step.0 step.1 read c.plus-sum.ensures ∙ c.loop-place.invariant
+    taken k.zero k.sum k.laws c.args.cells.now c.loop-place.sum rest (to_come c.next.new.self) _ _ _ step.0 step.1 read c.plus-sum.ensures ∙ c.loop-place.invariant
 
 pub returns : goal.returns
 returns g c =
     let k = g.C.Cell in
     let xs = c.args.cells.now in
-    let rest = c.loop-place.place-iterator in
+    let rest = to_come c.loop-place.place-iterator in
     let none = c.in-None.ensures.steps.0 in
-    let all : c.into_iter-place-iterator.result ≡ c.args.places = c.into_iter-place-iterator.ensures.into_iter_gives ∙ c.iter-place-items.ensures in
+    let all : to_come c.into_iter-place-iterator.result ≡ c.args.places = ap to_come c.into_iter-place-iterator.ensures.into_iter_gives ∙ c.iter-place-items.ensures in
     let value = ended k.zero k.sum k.laws xs c.loop-place.sum rest _ none c.loop-place.invariant ∙ ap (over k.zero k.sum xs) all in
     record { value = value; laws = sum_laws k.zero k.sum k.laws }

@@ -1,6 +1,7 @@
 use Rattle.std.proofs.Common.{◌≡◌, get_or}
 use Rattle.sets.specs.declared.set.SmallSet.{SmallSet}
 use Rattle.sets.specs.Members.{has}
+use Rattle.sets.specs.Steps.{to_come}
 use Rattle.sets.specs.Sums.{total}
 use Rattle.cell.proofs.sum.sum_over.Given as goal
 
@@ -9,4 +10,4 @@ abbrev pub invariant-loop-place : goal.invariant-loop-place
 invariant-loop-place g l =
     let k = g.C.Cell in
     let over : SmallSet → g.row.C.Denot = λ s. total k.zero k.sum 64 (has s) (λ i. get_or l.cells i k.zero) in
-    k.sum l.sum (over l.place-iterator) ≡ over l.initial.place-iterator
+    k.sum l.sum (over (to_come l.place-iterator)) ≡ over (to_come l.initial.place-iterator)

@@ -12,10 +12,10 @@ less m n e = omega arith
 pub returns-clause-goes : goal.returns-clause-goes
 returns-clause-goes c =
     let left : SmallSet → ℕ = λ s. count 64 (has s) in
-    let s = c.self.inside.rest in
-    let t = c.without-self-inside.result in
+    let s = c.args.self.now.rest in
+    let t = c.without-self.result in
     let i = c.in_ok-least.least in
     let l = c.in_ok-least.ensures in
     let e : left s ≡ suc (left t) =
-    count_without 64 i (has s) l.small l.member ∙ sym (ap suc (count_same 64 (has t) (λ j. has s j && not (eqb j i)) (λ j _. c.without-self-inside.ensures j))) in
-    firm (tt, tt, less (left c.args.self.now) (left t) (ap left (sym c.self.view_is) ∙ e)) (λ h. search rules)
+    count_without 64 i (has s) l.small l.member ∙ sym (ap suc (count_same 64 (has t) (λ j. has s j && not (eqb j i)) (λ j _. c.without-self.ensures j))) in
+    firm (tt, tt, less (left s) (left t) e) (λ h. search rules)

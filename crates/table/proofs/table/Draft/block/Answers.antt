@@ -1,12 +1,16 @@
-use Rattle.std.proofs.Common.{◌≡◌, ℕ, ◌+◌, ◌*◌, ◌&&◌, ◌||◌, List, [], ◌∷◌, ◌++◌, eqb, ltb, sym, ap, ◌∙◌, arith, rules}
+use Rattle.std.proofs.Common.{◌≡◌, ℕ, ◌+◌, ◌*◌, ◌≤◌, ◌&&◌, ◌||◌, List, [], ◌∷◌, ◌++◌, eqb, ltb, length, take, sym, ap, ◌∙◌, arith, rules}
 use Rattle.std.specs.List.{list_any, between}
-use Rattle.std.proofs.lemmas.Fn.{fold_over, slice_gives, fronts}
+use Rattle.std.proofs.lemmas.Fn.{fold_over, fronts}
+use Rattle.std.specs.Iterator.Adapters.{take_steps}
+use Rattle.std.proofs.lemmas.List.{take_all}
+use Rattle.std.proofs.lemmas.List.Edits.{length-between}
+use Rattle.std.proofs.lemmas.Iterator.{YieldsList-from_take, YieldsList-from_slice}
 use Rattle.std.proofs.lemmas.List.Folds.{list_any-append}
 use mathlib.Core.Bool.{or-false}
 use Rattle.sets.specs.declared.set.SmallSet.{SmallSet}
 use Rattle.sets.specs.Members.{has}
 use Rattle.table.specs.Contents.{has_point}
-use Rattle.table.proofs.Sizes.{few_points}
+use Rattle.table.proofs.Sizes.{few_points, block_end}
 use Rattle.table.proofs.Formed.{limits_of}
 use Rattle.table.proofs.Blocks.{in_block}
 use Rattle.table.proofs.table.Draft.block.Goals as goal
@@ -28,6 +32,8 @@ returns c p =
     let k = t.sizes.k in
     let ys = c.iter.result.rest.now in
     let e : ys ≡ between (c.args.d * k) ((c.args.d + 1) * k) t.points = search rules in
-    fold_over fronts (λ y. y.now) _ Gathers _ (λ ys a x b f' j k. let e : (i : ℕ) → has b i ≡ (has a i || (eqb i x.now && ltb i 64)) = search rules in (more ys x.now a b j e, search rules)) c.iter.result ys _ _ (slice_gives c.iter.result) (λ p. c.empty.ensures p) c.fold.ensures.ran p
+    let few : length ys ≤ 8 = let wide = ap length e ∙ length-between t.points (c.args.d * k) ((c.args.d + 1) * k) (omega (arith, few_points (limits_of t.sizes), t.room, block_end c.args.d t.sizes.n k c.requires)) in omega (arith, t.sizes.width) in
+    fold_over (take_steps fronts) (λ y. y.now) _ Gathers _ (λ ys a x b f' j k. let e : (i : ℕ) → has b i ≡ (has a i || (eqb i x.now && ltb i 64)) = search rules in (more ys x.now a b j e, search rules)) c.take.result (take 8 ys) _ _ (YieldsList-from_take {s = c.take.result} 8 (YieldsList-from_slice {A = ℕ} ys (search rules)) (search rules)).runs (λ p. c.empty.ensures p) c.fold.ensures.ran p
+    ∙ ap (list_any (λ x. eqb p x && ltb p 64)) (take_all 8 ys few)
     ∙ ap (list_any (λ x. eqb p x && ltb p 64)) e
     ∙ in_block t.points t.sizes.v c.args.d t.sizes.n k p t.high (omega (arith, t.sizes.checks)) c.requires (omega (arith, few_points (limits_of t.sizes), t.room))
